@@ -1,0 +1,293 @@
+//! Numbers and names that every layer shares.
+#![tactic(auto)]
+
+ghost use Rattle.std.specs.Prelude.{◌≡◌, ◌<◌, ◌≤◌, ◌+◌, SomeIff};
+ghost use Rattle.thread_base.specs.Numbers.{IsTid, IsPrio, IsInScope, IsCall, IsPolicy, policy_of, code_of};
+
+use std::marker::Model;
+
+/// Memory ran out: the one answer for want of memory.
+#[derive(Clone, Copy, Debug, PartialEq, Eq)]
+pub struct NoMemory;
+
+/// A thread's number, from 1 to 64.
+#[derive(Clone, Copy, Debug, PartialEq, Eq)]
+pub struct Tid(u32);
+
+impl Model for Tid {
+    ghost use Rattle.std.specs.Prelude.{ℕ};
+    ghost use Rattle.thread_base.specs.Numbers.{IsTid};
+
+    ghost Value = { ℕ };
+
+    ghost view = { λ t. t.0 };
+
+    ghost invariant = { λ t. IsTid t.0 };
+
+    ghost inverse = { λ n. record { 0 = n } };
+}
+
+impl Tid {
+    /// The thread of a number; None exactly outside 1 to 64.
+    pub fn new(n: u32) -> Option<Tid>
+        ensures { SomeIff result (IsTid n) n }
+    {
+        if 1 <= n && n <= 64 {
+            Some(Tid(n))
+        } else {
+            None
+        }
+    }
+
+    /// The thread at an index of a table, which counts from 0.
+    pub fn at(index: usize) -> Tid
+        requires { index < 64 }
+        ensures { result ≡ index + 1 }
+    {
+        Tid(index as u32 + 1)
+    }
+
+    /// Its number, from 1 to 64.
+    pub fn number(self) -> u32
+        ensures value { result ≡ self }
+        ensures range { IsTid self }
+    {
+        self.0
+    }
+
+    /// Its index in a table, which counts from 0.
+    pub fn index(self) -> usize
+        ensures value { result + 1 ≡ self }
+        ensures range { result < 64 }
+    {
+        self.0 as usize - 1
+    }
+}
+
+/// A priority, from 0 to 31; the greater goes first.
+#[derive(Clone, Copy, Debug, PartialEq, Eq)]
+pub struct Prio(u32);
+
+impl Model for Prio {
+    ghost use Rattle.std.specs.Prelude.{ℕ};
+    ghost use Rattle.thread_base.specs.Numbers.{IsPrio};
+
+    ghost Value = { ℕ };
+
+    ghost view = { λ p. p.0 };
+
+    ghost invariant = { λ p. IsPrio p.0 };
+
+    ghost inverse = { λ n. record { 0 = n } };
+}
+
+impl Prio {
+    /// The priority of a number; None exactly above 31.
+    pub fn new(n: u32) -> Option<Prio>
+        ensures { SomeIff result (IsPrio n) n }
+    {
+        if n <= 31 { Some(Prio(n)) } else { None }
+    }
+
+    /// Its number, from 0 to 31.
+    pub fn number(self) -> u32
+        ensures value { result ≡ self }
+        ensures range { IsPrio self }
+    {
+        self.0
+    }
+}
+
+/// A signal in scope: 1 to 31 without 18 to 22, by the numbers of Linux.
+#[derive(Clone, Copy, Debug, PartialEq, Eq)]
+pub struct Sig(u32);
+
+impl Model for Sig {
+    ghost use Rattle.std.specs.Prelude.{ℕ};
+    ghost use Rattle.thread_base.specs.Numbers.{IsInScope};
+
+    ghost Value = { ℕ };
+
+    ghost view = { λ s. s.0 };
+
+    ghost invariant = { λ s. IsInScope s.0 };
+
+    ghost inverse = { λ n. record { 0 = n } };
+}
+
+impl Sig {
+    /// The signal of a number; None exactly where it is not in scope.
+    pub fn new(n: u32) -> Option<Sig>
+        ensures { SomeIff result (IsInScope n) n }
+    {
+        if 1 <= n && n <= 31 && (n < 18 || 22 < n) {
+            Some(Sig(n))
+        } else {
+            None
+        }
+    }
+
+    /// The signal of a number that is in scope.
+    pub const fn of(n: u32) -> Sig
+        requires { IsInScope n }
+        ensures { result ≡ n }
+    {
+        Sig(n)
+    }
+
+    /// Its number, from 1 to 31.
+    pub fn number(self) -> u32
+        ensures value { result ≡ self }
+        ensures scope { IsInScope self }
+    {
+        self.0
+    }
+}
+
+/// A scheduling policy of POSIX.1: SCHED_OTHER, SCHED_FIFO or SCHED_RR.
+#[derive(Clone, Copy, Debug, PartialEq, Eq)]
+pub enum Policy {
+    Other,
+    Fifo,
+    Rr,
+}
+
+impl Policy {
+    /// The policy of a number: 0 is OTHER, 1 is FIFO, 2 is RR; None exactly above 2.
+    pub fn new(n: u32) -> Option<Policy>
+        ensures { SomeIff result (IsPolicy n) (policy_of n) }
+    {
+        match n {
+            0 => Some(Policy::Other),
+            1 => Some(Policy::Fifo),
+            2 => Some(Policy::Rr),
+            _ => None,
+        }
+    }
+}
+
+/// An error that a call answers, by its name in POSIX.1.
+#[derive(Clone, Copy, Debug, PartialEq, Eq)]
+pub enum Errno {
+    EPERM,
+    ESRCH,
+    EINTR,
+    EBADF,
+    EAGAIN,
+    EFAULT,
+    EBUSY,
+    EINVAL,
+    EDEADLK,
+    ENOSYS,
+    ETIMEDOUT,
+}
+
+impl Errno {
+    /// Its number, as Linux has it.
+    pub fn code(self) -> u32
+        ensures { result ≡ code_of self }
+    {
+        match self {
+            Errno::EPERM => 1,
+            Errno::ESRCH => 3,
+            Errno::EINTR => 4,
+            Errno::EBADF => 9,
+            Errno::EAGAIN => 11,
+            Errno::EFAULT => 14,
+            Errno::EBUSY => 16,
+            Errno::EINVAL => 22,
+            Errno::EDEADLK => 35,
+            Errno::ENOSYS => 38,
+            Errno::ETIMEDOUT => 110,
+        }
+    }
+}
+
+/// The number of a call in the call table: 63, 64, 93, or 256 to 294.
+#[derive(Clone, Copy, Debug, PartialEq, Eq)]
+pub struct CallNo(u32);
+
+impl Model for CallNo {
+    ghost use Rattle.std.specs.Prelude.{ℕ};
+    ghost use Rattle.thread_base.specs.Numbers.{IsCall};
+
+    ghost Value = { ℕ };
+
+    ghost view = { λ c. c.0 };
+
+    ghost invariant = { λ c. IsCall c.0 };
+
+    ghost inverse = { λ n. record { 0 = n } };
+}
+
+impl CallNo {
+    /// The call of a number; None exactly where the table has no such number.
+    pub fn new(n: u32) -> Option<CallNo>
+        ensures { SomeIff result (IsCall n) n }
+    {
+        if n == 63 || n == 64 || n == 93 || (256 <= n && n <= 294) {
+            Some(CallNo(n))
+        } else {
+            None
+        }
+    }
+
+    /// Its number.
+    pub fn number(self) -> u32
+        ensures value { result ≡ self }
+        ensures table { IsCall self }
+    {
+        self.0
+    }
+}
+
+/// A place of a run: `n` instructions were made, and `k` kernel steps since the n-th.
+/// Places are ordered by `n`, then by `k`.
+#[derive(Clone, Copy, Debug, PartialEq, Eq, PartialOrd, Ord)]
+pub struct Place {
+    pub n: u64,
+    pub k: u32,
+}
+
+#[cfg(test)]
+mod tests {
+    use super::*;
+
+    #[test]
+    fn ranges_and_tables(rt: HostRuntime) {
+        for (n, tid, prio, sig) in [
+            (0, false, true, false),
+            (1, true, true, true),
+            (17, true, true, true),
+            (18, true, true, false),
+            (22, true, true, false),
+            (23, true, true, true),
+            (31, true, true, true),
+            (32, true, false, false),
+            (64, true, false, false),
+            (65, false, false, false),
+        ] {
+            assert_eq!(rt; Tid::new(n).is_some(), tid, "thread {n}");
+            assert_eq!(rt; Prio::new(n).is_some(), prio, "priority {n}");
+            assert_eq!(rt; Sig::new(n).is_some(), sig, "signal {n}");
+        }
+        for (n, call) in [
+            (62, false),
+            (63, true),
+            (64, true),
+            (65, false),
+            (93, true),
+            (255, false),
+            (256, true),
+            (294, true),
+            (295, false),
+        ] {
+            assert_eq!(rt; CallNo::new(n).is_some(), call, "call {n}");
+        }
+        assert_eq!(rt; Policy::new(2), Some(Policy::Rr));
+        assert_eq!(rt; Policy::new(3), None);
+        assert_eq!(rt; Errno::ETIMEDOUT.code(), 110);
+        assert!(rt; Place { n: 3, k: 9 } < Place { n: 4, k: 0 });
+        assert!(rt; Place { n: 4, k: 0 } < Place { n: 4, k: 1 });
+    }
+}
