@@ -1,0 +1,11 @@
+pub mod Reports
+pub mod State
+pub mod Scheduling
+pub mod Changes
+pub mod Calls
+pub mod Deliveries
+pub mod Instructions
+pub mod Runs
+pub mod Lines
+pub mod Trace
+pub mod Start

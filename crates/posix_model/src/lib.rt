@@ -1,0 +1,146 @@
+//! The thread machine: its definitions, its laws, and the plain types of which they speak.
+#![tactic(auto)]
+
+ghost use Rattle.std.specs.Prelude.{◌≡◌};
+ghost use Rattle.posix_model.specs.Reports.{nothing_told};
+
+use rv_exec::Special;
+use thread_base::{Place, Sig, Tid};
+
+/// One move of a run: an instruction of a thread, an arrival of `count` journal entries from
+/// entry `first` on, the first of which was presented at `at`, or the next delivery.
+#[derive(Clone, Copy, Debug, PartialEq, Eq)]
+pub enum Move {
+    Instr { tid: Tid },
+    Arrive { first: u32, count: u32, at: Place },
+    Deliver,
+}
+
+/// How a run ends: the process exited with a value from 0 to 255, was killed by a signal,
+/// has no thread that could go on, or has used up its budget of instructions.
+#[derive(Clone, Copy, Debug, PartialEq, Eq)]
+pub enum Ending {
+    Exit(u32),
+    Killed(Sig),
+    Idle,
+    Budget,
+}
+
+/// What a call answers: an error number (0 for none) and a value, or that the caller waits,
+/// starts its exit, acts on a cancellation, enters a routine, or ends the process.
+#[derive(Clone, Copy, Debug, PartialEq, Eq)]
+pub enum Reply {
+    Values(u32, u32),
+    Block,
+    Exit,
+    Cancel,
+    Enter,
+    End,
+}
+
+/// What a run is given: how many instructions it may make, and how many ticks a turn of a thread lasts.
+#[derive(Clone, Copy, Debug, PartialEq, Eq)]
+pub struct Settings {
+    pub budget: u64,
+    pub quantum: u32,
+}
+
+/// What a move's main line tells; a plain instruction is quiet.
+#[derive(Clone, Copy, Debug, PartialEq, Eq)]
+pub enum Head {
+    Quiet,
+    Call {
+        no: u32,
+        args: [u32; 4],
+        reply: Reply,
+    },
+    Ret(Special),
+    Fault(Sig),
+    ArriveSig {
+        first: u32,
+        count: u32,
+        sig: Sig,
+    },
+    ArriveTick {
+        first: u32,
+    },
+    ArriveData {
+        first: u32,
+        len: u32,
+    },
+    ArriveEof {
+        first: u32,
+    },
+    Deliver {
+        to: u32,
+        sig: Sig,
+        count: u64,
+    },
+    Accept {
+        to: u32,
+        sig: Sig,
+        count: u64,
+    },
+    Interrupt {
+        to: u32,
+        sig: Sig,
+        count: u64,
+    },
+    Cancel {
+        to: u32,
+    },
+}
+
+/// The plain data of one move's lines. Every field that a move does not use is 0 or false.
+#[derive(Clone, Copy, Debug)]
+pub struct Report {
+    /// The thread of an instruction or of a delivery, and 0 for an arrival.
+    pub tid: u32,
+    pub head: Head,
+    /// Where an arrival's first entry was presented.
+    pub at: Place,
+    /// Whether a tick let the alarm go off.
+    pub alarm: bool,
+    /// The descriptor, the address and the number of the bytes that a write wrote.
+    pub out_fd: u32,
+    pub out_buf: u32,
+    pub out_len: u32,
+    /// 1 where a signal was accepted beside the main line, 2 where one was delivered, else 0.
+    pub took: u32,
+    pub took_sig: u32,
+    pub took_count: u64,
+    /// How many of each signal were dropped, by the signal's number.
+    pub drops: [u64; 32],
+    /// Whether the thread ended, and with which value.
+    pub gone: bool,
+    pub gone_value: u32,
+    /// Bit t - 1 tells that the waiting thread t was answered, with `values[t - 1]`.
+    pub done: u64,
+    pub values: [(u32, u32); 64],
+}
+
+impl Report {
+    /// The report of nothing: each field is 0 or false.
+    #[tactic(auto, unfolding(crate::specs::Reports::nothing_told))]
+    pub fn nothing() -> Report
+        ensures { result ≡ nothing_told }
+    {
+        Report {
+            tid: 0,
+            head: Head::Quiet,
+            at: Place { n: 0, k: 0 },
+            alarm: false,
+            out_fd: 0,
+            out_buf: 0,
+            out_len: 0,
+            took: 0,
+            took_sig: 0,
+            took_count: 0,
+            drops: [0; 32],
+            gone: false,
+            gone_value: 0,
+            done: 0,
+            values: [(0, 0); 64],
+        }
+    }
+}

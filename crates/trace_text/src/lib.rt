@@ -1,0 +1,15 @@
+//! The text of a trace: the lines of a move, of a switch and of an ending, written through a sink.
+#![tactic(auto)]
+
+mod counts;
+mod line;
+mod output;
+mod report;
+
+pub use report::{put_end, put_report, put_run};
+
+/// What is written of a run: its whole trace.
+#[derive(Clone, Copy, Debug, PartialEq, Eq)]
+pub enum Mode {
+    Trace,
+}
