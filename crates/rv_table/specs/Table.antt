@@ -1,6 +1,6 @@
 -- The table of instructions: RV32I and the M extension of the RISC-V manual.
 -- A word is compared as a whole with each row, under the row's mask.
-use Rattle.std.specs.Prelude.{ℕ, ◌+◌, ◌*◌, ◌/◌, ◌%◌, ◌^◌, ◌-◌, ◌==◌, ◌∷◌, List, [], Option, Some, None, bit_and, if◌then◌else◌, nat_lt}
+use Rattle.std.specs.Prelude.{ℕ, ◌+◌, ◌*◌, ◌/◌, ◌%◌, ◌^◌, ◌-◌, ◌<◌, ◌==◌, ◌∷◌, List, [], Option, Some, None, bit_and, if◌then◌else◌, nat_lt}
 use Rattle.rv_table.specs.declared.Instr.{Instr}
 use Rattle.rv_table.specs.declared.Format.{Format}
 use Rattle.rv_table.specs.declared.Format.TheVariants.{R, I, S, B, U, J, Shift}
@@ -145,3 +145,7 @@ instr_from (Some r) word = Some (instr_of r.0 r.1 word)
 -- the instruction that a word stands for, or none where the word is illegal
 abbrev pub decoded : ℕ → Option Instr
 decoded word = instr_from (row_of word) word
+
+-- the registers that an instruction names are x0 to x31
+abbrev pub NamesRegisters : Instr → Type 0
+NamesRegisters i = (i.rd < 32) × (i.rs1 < 32) × (i.rs2 < 32)

@@ -1,9 +1,9 @@
 //! The table of RV32IM instructions: which word is which instruction, and what its fields say.
 #![tactic(auto)]
 
-ghost use Rattle.std.specs.Prelude.{◌≡◌, ◌<◌, ◌^◌};
+ghost use Rattle.std.specs.Prelude.{◌≡◌, ◌<◌, ◌^◌, IfSome};
 ghost use Rattle.rv_table.specs.Fields.{row_by_fields};
-ghost use Rattle.rv_table.specs.Table.{decoded, immediate_of, sign_extended};
+ghost use Rattle.rv_table.specs.Table.{NamesRegisters, decoded, immediate_of, sign_extended};
 
 /// A decoded instruction of RV32IM.
 ///
@@ -35,7 +35,8 @@ enum Format {
 /// None exactly where the word is illegal: no row of the table matches it.
 #[tactic(auto, using(crate::proofs::Rows::row_is, crate::proofs::Rows::decodes))]
 pub fn decode(word: u32) -> Option<Instr>
-    ensures { result ≡ decoded word }
+    ensures row { result ≡ decoded word }
+    ensures registers { IfSome result NamesRegisters }
 {
     let (row, format) = row_of(word & 0x7f, (word >> 12) & 7, word >> 25, word)?;
     Some(Instr {
