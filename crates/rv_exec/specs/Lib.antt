@@ -1,1 +1,4 @@
 pub mod Window
+pub mod Words
+pub mod Meaning
+pub mod Outcome

@@ -1,4 +1,4 @@
-ghost use Rattle.std.specs.Prelude.{◌≡◌, ◌<◌, ◌≤◌, ◌+◌, ◌-◌, ◌↔◌, ℕ, length, replicate, slice_index, take, drop, IfOk, IfSome, IsSome, IsTrue};
+ghost use Rattle.std.specs.Prelude.{◌≡◌, ◌<◌, ◌≤◌, ◌+◌, ◌-◌, ◌^◌, ◌↔◌, ℕ, length, replicate, slice_index, take, drop, IfOk, IfSome, IsSome, IsTrue};
 ghost use Rattle.std.specs.Bool.{OnTrue, OnFalse};
 ghost use Rattle.std.specs.Int.{to_le_bytes, w32};
 ghost use Rattle.rv_exec.specs.Window.{zeros, base, is_inside, fits, number_at, bytes_at, with_bytes, IsWidth, IsMemorySize};
@@ -64,6 +64,7 @@ impl Memory {
         requires { IsWidth width }
         ensures some { IsSome result ↔ IsTrue (is_inside (length self.now) addr width) }
         ensures value { IfSome result (λ n. n ≡ number_at self.now addr width) }
+        ensures range { IfSome result (λ n. n < 256 ^ width) }
     {
         if !self.has(addr, width as usize) {
             return None;
