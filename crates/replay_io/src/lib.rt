@@ -2,9 +2,11 @@
 #![tactic(auto)]
 
 mod files;
+mod mem_sinks;
 mod sinks;
 mod words;
 
 pub use files::{Files, LoadRefusal};
+pub use mem_sinks::{MemSink, SureSink};
 pub use sinks::{Sink, SinkFailed};
 pub use words::Words;
