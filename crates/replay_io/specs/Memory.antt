@@ -1,8 +1,9 @@
 -- Sinks and files that stand in memory (this project's own).
-use Rattle.std.specs.Prelude.{ℕ, List, [], ◌∷◌, ◌++◌, ◌+◌, ◌-◌, ◌^◌, ◌==◌, ◌||◌, Bool, Option, Some, None, is_none, if◌then◌else◌, length, take, min}
-use Rattle.std.specs.List.{find}
+use Rattle.std.specs.Prelude.{ℕ, List, [], ◌∷◌, ◌++◌, ◌+◌, ◌-◌, ◌^◌, ◌==◌, ◌&&◌, not, Bool, Option, Some, None, is_some, if◌then◌else◌, length, take, min, reverse}
+use Rattle.std.specs.List.{find, list_any}
 use Rattle.std.specs.Option.{option_map}
 use Rattle.std.specs.Str.{bytes_eq}
+use Rattle.replay_io.specs.Names.{failures_after}
 
 -- bytes behind a limit: those that were kept, how many may be kept in all, and how many came beyond that
 pub record Store : Type 0 where
@@ -60,3 +61,26 @@ script_after s piece =
       puts = next_number s.puts;
       faults = faults_after failing s.faults;
     }
+
+-- files in memory: each name with its bytes, as they were added, the names whose load failed,
+-- how many loads there were, and the numbers of the loads that fail, from 1
+pub record Shelf : Type 0 where
+  pub held : List (List ℕ × List ℕ)
+  pub failed : List (List ℕ)
+  pub loads : ℕ
+  pub fails : List ℕ
+
+-- what was added last under a name
+unfoldable pub last_under : List (List ℕ × List ℕ) → List ℕ → Option (List ℕ)
+last_under held name = option_map (λ e. e.1) (find (λ e. bytes_eq e.0 name) (reverse held))
+
+-- whether the next load gives the bytes of a name, if memory lasts
+abbrev pub is_loadable : Shelf → List ℕ → Bool
+is_loadable s name = is_some (last_under s.held name) && not (list_any (λ n. n == next_number s.loads) s.fails)
+
+-- the shelf after a load, which may have failed
+abbrev pub shelf_after : Shelf → List ℕ → Bool → Shelf
+shelf_after s name failed = record s {
+  failed = failures_after s.failed name failed;
+  loads = next_number s.loads;
+}

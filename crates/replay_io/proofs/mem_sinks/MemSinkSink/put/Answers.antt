@@ -14,12 +14,12 @@ returns-in-Some-clause-writes c =
     let stored = c.add-in-Some.ensures ∙ ap (λ s. store_after s.store front) c.self.view_is in
     let same : c.self.inside.faults ≡ c.args.self.now.faults = ap (λ s. s.faults) c.self.view_is in
     front_kept
-        c.args.self.now.store
-        c.add-in-Some.new.self
-        c.args.self.now.faults
-        c.saturating_add-self-inside-in-Some.result
-        c.min-count.result
-        c.args.piece.now
-        stored
-        (omega arith)
-        (omega arith)
+    c.args.self.now.store
+    c.add-in-Some.new.self
+    c.args.self.now.faults
+    c.saturating_add-self-inside-in-Some.result
+    c.min-count.result
+    c.args.piece.now
+    stored
+    (omega arith)
+    (omega arith)
