@@ -1,1 +1,3 @@
+pub mod MemoryLemmas
+pub mod NamesLemmas
 pub mod WritingLemmas

@@ -1,0 +1,9 @@
+use Rattle.std.proofs.Common.{ap, ◌∙◌, refl}
+use Rattle.replay_io.specs.Memory.{store_after}
+use Rattle.replay_io.proofs.MemoryLemmas.{whole_kept}
+use Rattle.replay_io.proofs.mem_sinks.SureSinkSink.put.Goals as goal
+
+pub returns-clause-writes : goal.returns-clause-writes
+returns-clause-writes c =
+    let stored = c.add.ensures ∙ ap (λ s. store_after s c.args.piece.now) c.self.view_is in
+    whole_kept c.args.self.now c.add.new.self 0 0 c.args.piece.now stored refl
