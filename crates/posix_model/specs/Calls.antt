@@ -6,6 +6,7 @@ use Rattle.thread_base.specs.declared.Errno.TheVariants.{EBADF, EFAULT, ENOSYS}
 use Rattle.rv_exec.specs.Window.{fits}
 use Rattle.posix_model.specs.State.{State, Registers}
 use Rattle.posix_model.specs.Changes.{Made, begun, reply}
+use Rattle.posix_model.specs.declared.Arguments.{Arguments}
 use Rattle.posix_model.specs.declared.Report.{Report}
 use Rattle.posix_model.specs.declared.Reply.{Reply}
 use Rattle.posix_model.specs.declared.Reply.TheVariants.{Values, End}
@@ -13,12 +14,6 @@ use Rattle.posix_model.specs.declared.Head.TheVariants.{Call}
 use Rattle.posix_model.specs.declared.Ending.TheVariants.{Exit}
 
 -- the arguments of a call, which stand in a0 to a3
-pub record Arguments : Type 0 where
-  pub a : ℕ
-  pub b : ℕ
-  pub d : ℕ
-  pub e : ℕ
-
 abbrev pub arguments : Registers → Arguments
 arguments r = record { a = slice_index r.x 10; b = slice_index r.x 11; d = slice_index r.x 12; e = slice_index r.x 13 }
 

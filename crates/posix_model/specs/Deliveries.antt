@@ -1,5 +1,6 @@
 -- Signals that pend on threads, and their delivery (POSIX.1 signals; the order is this project's own).
-use Rattle.std.specs.Prelude.{ℕ, ◌+◌, List, [], ◌∷◌, find, nat_lt, is_some, Option, Some, None}
+use Rattle.std.specs.Prelude.{ℕ, ◌+◌, List, find, nat_lt, is_some, Option, Some, None}
+use Rattle.std.specs.List.{range_with_len}
 use Rattle.thread_base.specs.Maps.{put}
 use Rattle.thread_base.specs.Priority.{tids}
 use Rattle.posix_model.specs.State.{State}
@@ -7,11 +8,9 @@ use Rattle.posix_model.specs.Changes.{Made, begun}
 use Rattle.posix_model.specs.declared.Head.TheVariants.{Fault, Deliver}
 use Rattle.posix_model.specs.declared.Ending.TheVariants.{Killed}
 
--- the signals in scope, in order
+-- the numbers of signals, in order; nothing pends under those that are not in scope
 unfoldable pub signals : List ℕ
-signals =
-    1 ∷ 2 ∷ 3 ∷ 4 ∷ 5 ∷ 6 ∷ 7 ∷ 8 ∷ 9 ∷ 10 ∷ 11 ∷ 12 ∷ 13 ∷ 14 ∷ 15 ∷ 16 ∷ 17
-    ∷ 23 ∷ 24 ∷ 25 ∷ 26 ∷ 27 ∷ 28 ∷ 29 ∷ 30 ∷ 31 ∷ []
+signals = range_with_len 1 31
 
 -- the lowest signal that pends on a thread
 abbrev pub lowest_pending : State → ℕ → Option ℕ

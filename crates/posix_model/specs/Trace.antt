@@ -20,6 +20,11 @@ switch_line last (Instr tid) = if is_last tid last then [] else run_line tid
 switch_line last (Arrive first count at) = []
 switch_line last Deliver = []
 
+-- the same, by the threads of the last instruction before and after a move
+abbrev pub switch_text : Option ℕ → Option ℕ → List ℕ
+switch_text before None = []
+switch_text before (Some t) = if is_last t before then [] else run_line t
+
 -- the text of one move
 abbrev pub move_text : Moment → Move → List ℕ
 move_text now move = switch_line now.last move ++ lines (make now.state move).report (make now.state move).state.memory

@@ -38,6 +38,15 @@ pub enum Reply {
     End,
 }
 
+/// The arguments of a call, which stand in a0, a1, a2 and a3.
+#[derive(Clone, Copy, Debug, PartialEq, Eq)]
+pub struct Arguments {
+    pub a: u32,
+    pub b: u32,
+    pub d: u32,
+    pub e: u32,
+}
+
 /// What a run is given: how many instructions it may make, and how many ticks a turn of a thread lasts.
 #[derive(Clone, Copy, Debug, PartialEq, Eq)]
 pub struct Settings {
@@ -123,7 +132,8 @@ impl Report {
     /// The report of nothing: each field is 0 or false.
     #[tactic(auto, unfolding(crate::specs::Reports::nothing_told))]
     pub fn nothing() -> Report
-        ensures { result ≡ nothing_told }
+        ensures nothing { result ≡ nothing_told }
+        ensures no_output { result.out_len ≡ 0 }
     {
         Report {
             tid: 0,

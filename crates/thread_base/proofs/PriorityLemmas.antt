@@ -87,3 +87,7 @@ found_in test (y ∷ ys) x e =
 -- the first of the greatest is in the list
 pub first_in : (p : ℕ → ℕ) (xs : List ℕ) (x : ℕ) → first_greatest p xs ≡ Some x → is_in x xs ≡ true
 first_in p xs x e = found_in (λ y. eqb (p y) (greatest p xs)) xs x e
+
+-- of one thread alone, it is the first
+pub first_of_one : (p : ℕ → ℕ) (x : ℕ) → first_greatest p (x ∷ []) ≡ Some x
+first_of_one p x = rw (eq-eqb (p x) (max (p x) 0) (omega arith)) refl

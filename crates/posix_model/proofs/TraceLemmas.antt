@@ -1,0 +1,60 @@
+-- Runs and their texts, one move more.
+use Rattle.std.proofs.Common.{◌≡◌, ◌∙◌, ap, sym, refl, subst, ℕ, ◌+◌, ◌-◌, ◌*◌, ◌<◌, ◌≤◌, List, [], ◌∷◌, ◌++◌, Option, Some, None, append_assoc, append-nil, arith}
+use Rattle.std.proofs.lemmas.Bool.{eq-eqb}
+use Rattle.posix_model.specs.Runs.{Moment, Allowed, IsRun, moved, after}
+use Rattle.posix_model.specs.Deliveries.{deliver, delivered}
+use Rattle.posix_model.specs.Trace.{text, move_text, switch_line, switch_text}
+use Rattle.posix_model.specs.declared.Ending.{Ending}
+use Rattle.posix_model.specs.declared.Move.TheVariants.{Instr, Arrive, Deliver}
+use Rattle.posix_model.specs.declared.Settings.{Settings}
+use Rattle.posix_model.specs.declared.Move.{Move}
+
+pub IsRun-more : (settings : Settings) (now : Moment) (moves : List Move) (move : Move)
+    → IsRun settings now moves → Allowed settings (after now moves) move → IsRun settings now (moves ++ move ∷ [])
+IsRun-more settings now [] move run allowed = (allowed, tt)
+IsRun-more settings now (m ∷ ms) move run allowed = (run.0, IsRun-more settings (moved now m) ms move run.1 allowed)
+
+pub after-more : (now : Moment) (moves : List Move) (move : Move) → after now (moves ++ move ∷ []) ≡ moved (after now moves) move
+after-more now [] move = refl
+after-more now (m ∷ ms) move = after-more (moved now m) ms move
+
+pub text-more : (now : Moment) (moves : List Move) (move : Move)
+    → text now (moves ++ move ∷ []) ≡ text now moves ++ move_text (after now moves) move
+text-more now [] move = append-nil (move_text now move)
+text-more now (m ∷ ms) move =
+    ap (λ t. move_text now m ++ t) (text-more (moved now m) ms move)
+    ∙ sym (append_assoc (move_text now m) (text (moved now m) ms) (move_text (after (moved now m) ms) move))
+
+no_switch : (last : Option ℕ) → switch_text last last ≡ []
+no_switch None = refl
+no_switch (Some t) = rw (eq-eqb t t refl) refl
+
+-- a switch shows in the threads of the last instruction
+pub switch_line-text : (now : Moment) (move : Move) → switch_line now.last move ≡ switch_text now.last (moved now move).last
+switch_line-text now (Instr tid) = refl
+switch_line-text now (Arrive first count at) = sym (no_switch now.last)
+switch_line-text now Deliver = sym (no_switch now.last)
+
+-- at most so many moves may follow
+abbrev pub not_over : Option Ending → ℕ
+not_over None = 1
+not_over (Some ending) = 0
+
+abbrev pub moves_left : Settings → Moment → ℕ
+moves_left settings now = 2 * (settings.budget - now.made) + not_over now.state.over
+
+not_over_le : (o : Option Ending) → not_over o ≤ 1
+not_over_le None = omega arith
+not_over_le (Some ending) = omega arith
+
+-- each move leaves fewer
+pub moves_fall : (settings : Settings) (now : Moment) (move : Move) → Allowed settings now move → moves_left settings (moved now move) < moves_left settings now
+moves_fall settings now (Instr tid) h =
+    let few = not_over_le (moved now (Instr tid)).state.over in
+    let room = h.1 in
+    omega (arith, few, room)
+moves_fall settings now (Arrive first count at) h = absurd h
+moves_fall settings now Deliver h =
+    let was : not_over now.state.over ≡ 1 = ap not_over h.0 in
+    let is : not_over (deliver now.state).state.over ≡ 0 = ap (λ o. not_over (delivered now.state o).state.over) h.2 in
+    omega (arith, was, is)

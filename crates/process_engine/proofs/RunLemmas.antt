@@ -1,0 +1,142 @@
+-- A run so far whose text was written, one move more, and its end.
+use Rattle.std.proofs.Common.{◌≡◌, ◌∙◌, ap, sym, refl, subst, ℕ, ◌<◌, List, [], ◌∷◌, ◌++◌, Option, append-nil, append_assoc, inl, inr, arith, Result, Ok, Err, true, false}
+use Rattle.replay_io.specs.Writing.{WritesWhole, WritesFront}
+use Rattle.replay_io.proofs.WritingLemmas.{writes_nothing, whole_then_whole, whole_then_front}
+use Rattle.posix_model.specs.Changes.{Made}
+use Rattle.posix_model.specs.Runs.{Moment, Allowed, IsRun, Ends, make, moved, after}
+use Rattle.posix_model.specs.Lines.{lines, end_lines}
+use Rattle.posix_model.specs.Trace.{text, move_text, switch_line, switch_text, end_text, left, IsText, IsWholeText}
+use Rattle.posix_model.specs.declared.Settings.{Settings}
+use Rattle.posix_model.specs.declared.Move.{Move}
+use Rattle.posix_model.specs.declared.Move.TheVariants.{Instr, Arrive, Deliver}
+use Rattle.posix_model.specs.declared.Ending.{Ending}
+use Rattle.posix_model.specs.declared.Report.{Report}
+use Rattle.posix_model.proofs.TraceLemmas.{IsRun-more, after-more, text-more, switch_line-text, moves_left, moves_fall}
+use Rattle.process_engine.specs.Turns.{IsTurn, Runs, RunsWhole, RunsFront}
+use Rattle.process_engine.specs.declared.Turn.{Turn}
+use Rattle.process_engine.specs.declared.Turn.TheVariants.{Quiet, Made as MadeTurn}
+use Rattle.std.specs.Result.{IsErr}
+use Rattle.process_engine.specs.declared.Done.{Done}
+
+-- a run from a start to now, whose text was written
+pub record SoFarWritten (settings : Settings) (start now : Moment) (a b : Option (List ℕ)) (f g : ℕ) : Type 0 where
+  pub moves : List Move
+  pub run : IsRun settings start moves
+  pub leads : after start moves ≡ now
+  pub written : WritesWhole a b f g (text start moves)
+
+pub none_made : (settings : Settings) (start : Moment) (a : Option (List ℕ)) (f : ℕ) → SoFarWritten settings start start a a f f
+none_made settings start a f = record { moves = []; run = tt; leads = refl; written = writes_nothing a f }
+
+-- the text of a move, as it is written
+pub told : (now : Moment) (move : Move) (report : Report) (new : Moment) → new ≡ moved now move → report ≡ (make now.state move).report
+    → switch_text now.last new.last ++ lines report new.state.memory ≡ move_text now move
+told now move report new e r =
+    ap (λ (m : Moment). switch_text now.last m.last ++ lines report m.state.memory) e
+    ∙ ap (λ (q : Report). switch_text now.last (moved now move).last ++ lines q (moved now move).state.memory) r
+    ∙ ap (λ t. t ++ lines (make now.state move).report (moved now move).state.memory) (sym (switch_line-text now move))
+    ∙ same now move
+  where
+    same : (now : Moment) (move : Move) → switch_line now.last move ++ lines (make now.state move).report (moved now move).state.memory ≡ move_text now move
+    same now (Instr tid) = refl
+    same now (Arrive first count at) = refl
+    same now Deliver = refl
+
+module _ (settings : Settings) (start now : Moment) (move : Move) (a b c : Option (List ℕ)) (f g h : ℕ) (all : List ℕ) (so_far : SoFarWritten settings start now a b f g)
+    (allowed : Allowed settings now move) (same : all ≡ move_text now move) where
+  here : Allowed settings (after start so_far.moves) move
+  here = subst (λ n. Allowed settings n move) (sym so_far.leads) allowed
+
+  longer : text start so_far.moves ++ all ≡ text start (so_far.moves ++ move ∷ [])
+  longer =
+      ap (λ t. text start so_far.moves ++ t) (same ∙ ap (λ n. move_text n move) (sym so_far.leads))
+      ∙ sym (text-more start so_far.moves move)
+
+  -- a move is made and its text written
+  pub one_more_made : (new : Moment) → new ≡ moved now move → WritesWhole b c g h all → SoFarWritten settings start new a c f h
+  one_more_made new e w = record {
+    moves = so_far.moves ++ move ∷ [];
+    run = IsRun-more settings start so_far.moves move so_far.run here;
+    leads = after-more start so_far.moves move ∙ ap (λ n. moved n move) so_far.leads ∙ sym e;
+    written = whole_then_whole a b c f g h (text start so_far.moves) all (text start (so_far.moves ++ move ∷ [])) so_far.written w longer;
+  }
+
+  -- a move is made and its text fails
+  pub one_made_fails : WritesFront b c g h all → RunsFront settings start a c f h
+  one_made_fails w = record {
+    trace = text start (so_far.moves ++ move ∷ []);
+    part = record {
+      moves = so_far.moves ++ move ∷ [];
+      run = IsRun-more settings start so_far.moves move so_far.run here;
+      told = inl refl;
+    };
+    written = whole_then_front a b c f g h (text start so_far.moves) all [] (text start (so_far.moves ++ move ∷ [])) so_far.written w (append-nil (text start so_far.moves ++ all) ∙ longer);
+  }
+
+-- the text of a move without lines
+no_text : (now new : Moment) (move : Move) → new ≡ moved now move → lines (make now.state move).report new.state.memory ≡ []
+    → switch_text now.last new.last ≡ move_text now move
+no_text now new move e none =
+    sym (append-nil (switch_text now.last new.last))
+    ∙ ap (λ t. switch_text now.last new.last ++ t) (sym none)
+    ∙ told now move (make now.state move).report new e refl
+
+module _ (settings : Settings) (start now new : Moment) (a b c : Option (List ℕ)) (f g h : ℕ) (so_far : SoFarWritten settings start now a b f g)
+    (before : Option ℕ) (same : before ≡ now.last) where
+  -- a turn without lines
+  pub quiet_more : IsTurn settings now Quiet new → WritesWhole b c g h (switch_text before new.last) → SoFarWritten settings start new a c f h
+  quiet_more t w =
+      one_more_made settings start now t.0 a b c f g h _ so_far t.1 (no_text now new t.0 t.2 t.3) new t.2
+      (subst (λ (o : Option ℕ). WritesWhole b c g h (switch_text o new.last)) same w)
+
+  pub quiet_fails : IsTurn settings now Quiet new → WritesFront b c g h (switch_text before new.last) → RunsFront settings start a c f h
+  quiet_fails t w =
+      one_made_fails settings start now t.0 a b c f g h _ so_far t.1 (no_text now new t.0 t.2 t.3)
+      (subst (λ (o : Option ℕ). WritesFront b c g h (switch_text o new.last)) same w)
+
+  -- a turn with a report
+  pub made_more : (report : Report) → IsTurn settings now (MadeTurn report) new
+      → WritesWhole b c g h (switch_text before new.last ++ lines report new.state.memory) → SoFarWritten settings start new a c f h
+  made_more report t w =
+      one_more_made settings start now t.0 a b c f g h _ so_far t.1 (told now t.0 report new t.2 t.3) new t.2
+      (subst (λ (o : Option ℕ). WritesWhole b c g h (switch_text o new.last ++ lines report new.state.memory)) same w)
+
+  pub made_fails : (report : Report) → IsTurn settings now (MadeTurn report) new
+      → WritesFront b c g h (switch_text before new.last ++ lines report new.state.memory) → RunsFront settings start a c f h
+  made_fails report t w =
+      one_made_fails settings start now t.0 a b c f g h _ so_far t.1 (told now t.0 report new t.2 t.3)
+      (subst (λ (o : Option ℕ). WritesFront b c g h (switch_text o new.last ++ lines report new.state.memory)) same w)
+
+-- what the loop says at its exits
+pub runs_err : {E : Type 0} (settings : Settings) (start : Moment) (r : Result Done E) (a b : Option (List ℕ)) (f g : ℕ) → IsErr r → RunsFront settings start a b f g → Runs settings start r a b f g
+runs_err settings start (Ok u) a b f g h p = absurd (let e : false ≡ true = h in cc)
+runs_err settings start (Err e) a b f g h p = p
+
+-- the ending's text is that of what the run has come to, whichever settings it has
+pub same_turn : (s t : Settings) (now new : Moment) (turn : Turn) → s ≡ t → IsTurn s now turn new → IsTurn t now turn new
+same_turn s t now new turn e h = subst (λ u. IsTurn u now turn new) e h
+
+module _ (settings : Settings) (start now : Moment) (ending : Ending) (a b c : Option (List ℕ)) (f g h : ℕ) (so_far : SoFarWritten settings start now a b f g)
+    (ends : Ends settings now ending) where
+  ends_here : Ends settings (after start so_far.moves) ending
+  ends_here = subst (λ n. Ends settings n ending) (sym so_far.leads) ends
+
+  all_text : text start so_far.moves ++ end_text now ending ≡ text start so_far.moves ++ end_text (after start so_far.moves) ending
+  all_text = ap (λ n. text start so_far.moves ++ end_text n ending) (sym so_far.leads)
+
+  -- the end is written
+  pub ended_whole : WritesWhole b c g h (end_text now ending) → RunsWhole settings start (record { ending = ending }) a c f h
+  ended_whole w = record {
+    trace = text start so_far.moves ++ end_text (after start so_far.moves) ending;
+    whole = record { moves = so_far.moves; run = so_far.run; ends = ends_here; told = refl };
+    written = whole_then_whole a b c f g h (text start so_far.moves) (end_text now ending) (text start so_far.moves ++ end_text (after start so_far.moves) ending) so_far.written w all_text;
+  }
+
+  -- the end fails
+  pub ended_fails : WritesFront b c g h (end_text now ending) → RunsFront settings start a c f h
+  ended_fails w = record {
+    trace = text start so_far.moves ++ end_text (after start so_far.moves) ending;
+    part = record { moves = so_far.moves; run = so_far.run; told = inr (ending, ends_here, refl) };
+    written = whole_then_front a b c f g h (text start so_far.moves) (end_text now ending) [] (text start so_far.moves ++ end_text (after start so_far.moves) ending) so_far.written w
+        (append-nil (text start so_far.moves ++ end_text now ending) ∙ all_text);
+  }

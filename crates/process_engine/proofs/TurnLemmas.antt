@@ -1,0 +1,173 @@
+-- A turn of the engine is a move of the machine.
+use Rattle.std.proofs.Common.{◌≡◌, ◌≢◌, ◌∙◌, ap, sym, refl, subst, ℕ, ◌+◌, ◌<◌, List, [], Option, Some, None, inl, inr}
+use Rattle.rv_exec.specs.declared.Event.{Event}
+use Rattle.rv_exec.specs.declared.Event.TheVariants.{Next, Ecall, Fault as FaultEvent, Return as ReturnEvent}
+use Rattle.rv_exec.specs.declared.Special.{Special}
+use Rattle.rv_exec.specs.Meaning.{Effect, Goes, Calls, Faults, Returns, effect}
+use Rattle.rv_exec.specs.Outcome.{HasEffect}
+use Rattle.trace_text.specs.Output.{IsReadable}
+use Rattle.posix_model.specs.State.{State, Registers}
+use Rattle.posix_model.specs.Changes.{Made, set_registers}
+use Rattle.posix_model.specs.Calls.{call, call_number, arguments}
+use Rattle.posix_model.specs.Deliveries.{faulted, deliver}
+use Rattle.posix_model.specs.Instructions.{instruction, by_effect, went_on, segmentation_fault}
+use Rattle.posix_model.specs.Reports.{nothing_told}
+use Rattle.posix_model.specs.Runs.{Moment, Allowed, IsTurnOf, Ends, moved}
+use Rattle.posix_model.specs.Lines.{lines, first_lines, head_line, alarm_line, out_line, signal_lines, took_line, count_lines, sig_numbers, thread_lines, gone_line, done_lines, done_line}
+use Rattle.posix_model.specs.declared.Report.{Report}
+use Rattle.posix_model.specs.declared.Head.TheVariants.{Quiet as QuietHead}
+use Rattle.posix_model.specs.declared.Move.TheVariants.{Instr, Deliver}
+use Rattle.posix_model.specs.declared.Ending.{Ending}
+use Rattle.posix_model.specs.declared.Ending.TheVariants.{Budget}
+use Rattle.thread_base.specs.Numbers.{IsInScope}
+use Rattle.thread_base.specs.Priority.{tids}
+use Rattle.process_engine.specs.Single.{Single, state_of, moment_of, registers_of, made_of}
+use Rattle.process_engine.specs.Turns.{IsTurn}
+use Rattle.process_engine.specs.declared.Turn.TheVariants.{Quiet, Made as MadeTurn}
+use Rattle.process_engine.proofs.Singles.{registers_are, with_registers, first_is_chosen, none_is_next, fault_is_next}
+
+-- which effect an event tells
+goes_on : (e : Effect) (pc : ℕ) (x m : List ℕ) (pc' : ℕ) (x' m' : List ℕ) → HasEffect e Next pc x m pc' x' m' → e ≡ Goes pc' x' m'
+goes_on (Goes a b c) pc x m pc' x' m' h = λ i. Goes (sym h.1 i) (sym h.2 i) (sym h.3 i)
+goes_on Calls pc x m pc' x' m' h = let e : Next ≡ Ecall = h.0 in cc
+goes_on (Faults s) pc x m pc' x' m' h = let e : Next ≡ FaultEvent s = h.0 in cc
+goes_on (Returns s) pc x m pc' x' m' h = let e : Next ≡ ReturnEvent s = h.0 in cc
+
+-- with another event nothing changes
+record IsStill (pc : ℕ) (x m : List ℕ) (pc' : ℕ) (x' m' : List ℕ) : Type 0 where
+  same_pc : pc' ≡ pc
+  same_x : x' ≡ x
+  same_m : m' ≡ m
+
+calls : (e : Effect) (pc : ℕ) (x m : List ℕ) (pc' : ℕ) (x' m' : List ℕ) → HasEffect e Ecall pc x m pc' x' m' → (e ≡ Calls) × IsStill pc x m pc' x' m'
+calls (Goes a b c) pc x m pc' x' m' h = let e : Ecall ≡ Next = h.0 in cc
+calls Calls pc x m pc' x' m' h = (refl, record { same_pc = h.1; same_x = h.2; same_m = h.3 })
+calls (Faults s) pc x m pc' x' m' h = let e : Ecall ≡ FaultEvent s = h.0 in cc
+calls (Returns s) pc x m pc' x' m' h = let e : Ecall ≡ ReturnEvent s = h.0 in cc
+
+faults : (e : Effect) (sig : ℕ) (pc : ℕ) (x m : List ℕ) (pc' : ℕ) (x' m' : List ℕ) → HasEffect e (FaultEvent sig) pc x m pc' x' m' → (e ≡ Faults sig) × IsStill pc x m pc' x' m'
+faults (Goes a b c) sig pc x m pc' x' m' h = let e : FaultEvent sig ≡ Next = h.0 in cc
+faults Calls sig pc x m pc' x' m' h = let e : FaultEvent sig ≡ Ecall = h.0 in cc
+faults (Faults s) sig pc x m pc' x' m' h = (let e : FaultEvent sig ≡ FaultEvent s = h.0 in let f : s ≡ sig = cc in ap Faults f, record { same_pc = h.1; same_x = h.2; same_m = h.3 })
+faults (Returns s) sig pc x m pc' x' m' h = let e : FaultEvent sig ≡ ReturnEvent s = h.0 in cc
+
+returns : (e : Effect) (which : Special) (pc : ℕ) (x m : List ℕ) (pc' : ℕ) (x' m' : List ℕ) → HasEffect e (ReturnEvent which) pc x m pc' x' m' → (e ≡ Returns which) × IsStill pc x m pc' x' m'
+returns (Goes a b c) which pc x m pc' x' m' h = let e : ReturnEvent which ≡ Next = h.0 in cc
+returns Calls which pc x m pc' x' m' h = let e : ReturnEvent which ≡ Ecall = h.0 in cc
+returns (Faults s) which pc x m pc' x' m' h = let e : ReturnEvent which ≡ FaultEvent s = h.0 in cc
+returns (Returns s) which pc x m pc' x' m' h = (let e : ReturnEvent which ≡ ReturnEvent s = h.0 in let f : s ≡ which = cc in ap Returns f, record { same_pc = h.1; same_x = h.2; same_m = h.3 })
+
+-- a plain instruction has no lines
+pub no_lines : (t : ℕ) (memory : List ℕ) → lines (record nothing_told { tid = t }) memory ≡ []
+unfolding lines head_line alarm_line out_line took_line count_lines sig_numbers gone_line done_lines done_line tids nothing_told
+no_lines t memory = refl
+
+-- the instruction of thread 1, by its effect
+by : (p : Single) → instruction (state_of p) 1 ≡ by_effect (state_of p) 1 (effect p.pc p.x p.memory)
+unfolding instruction state_of
+by p = ap (λ (r : Registers). by_effect (state_of p) 1 (effect r.pc r.x p.memory)) (registers_are p)
+
+-- thread 1 has its turn
+pub has_turn : (p : Single) → p.over ≡ None → p.fault ≡ None → IsTurnOf (state_of p) 1
+unfolding state_of
+has_turn p over fault = record { going_on = over; settled = none_is_next p fault; first = first_is_chosen p }
+
+-- a process after an instruction, of which its event tells the rest
+abbrev pub IsCounted : Single → Single → Type 0
+IsCounted p q = q ≡ record p { pc = q.pc; x = q.x; memory = q.memory; made = p.made + 1; last = Some 1 }
+
+still_state : (p q : Single) → IsCounted p q → IsStill p.pc p.x p.memory q.pc q.x q.memory → state_of q ≡ state_of p
+unfolding state_of
+still_state p q counted still =
+    ap state_of counted ∙ (λ i. state_of (record p { pc = still.same_pc i; x = still.same_x i; memory = still.same_m i; made = p.made + 1; last = Some 1 }))
+
+still_registers : (p q : Single) → IsStill p.pc p.x p.memory q.pc q.x q.memory → registers_of q ≡ registers_of p
+still_registers p q still = λ i. record { pc = still.same_pc i; x = still.same_x i }
+
+went : (p q : Single) → IsCounted p q → HasEffect (effect p.pc p.x p.memory) Next p.pc p.x p.memory q.pc q.x q.memory
+    → instruction (state_of p) 1 ≡ went_on (state_of p) 1 (registers_of q) q.memory
+went p q counted h = by p ∙ ap (by_effect (state_of p) 1) (goes_on (effect p.pc p.x p.memory) p.pc p.x p.memory q.pc q.x q.memory h)
+
+went_state : (p q : Single) → IsCounted p q → state_of q ≡ (went_on (state_of p) 1 (registers_of q) q.memory).state
+unfolding state_of
+went_state p q counted = ap state_of counted ∙ ap (λ (s : State). record s { memory = q.memory }) (with_registers p (registers_of q))
+
+-- a plain instruction
+pub quiet_turn : (p q : Single) → p.over ≡ None → p.fault ≡ None → p.made < p.settings.budget → IsCounted p q
+    → HasEffect (effect p.pc p.x p.memory) Next p.pc p.x p.memory q.pc q.x q.memory → IsTurn p.settings (moment_of p) Quiet (moment_of q)
+quiet_turn p q over fault budget counted h =
+    let now = went p q counted h in
+    let state = went_state p q counted ∙ sym (ap (λ (m : Made). m.state) now) in
+    let made = ap (λ (r : Single). r.made) counted in
+    let last = ap (λ (r : Single). r.last) counted in (
+      Instr 1,
+      (has_turn p over fault, budget),
+      (λ i. record { state = state i; made = made i; last = last i }),
+      ap (λ (m : Made). lines m.report (state_of q).memory) now ∙ no_lines 1 (state_of q).memory,
+    )
+
+-- an instruction with lines
+pub made_turn : (p r : Single) (report : Report) → p.over ≡ None → p.fault ≡ None → p.made < p.settings.budget
+    → made_of r report ≡ instruction (state_of p) 1 → r.made ≡ p.made + 1 → r.last ≡ Some 1
+    → IsReadable report r.memory → (report.head ≡ QuietHead → ⊥) → IsTurn p.settings (moment_of p) (MadeTurn report) (moment_of r)
+unfolding state_of
+made_turn p r report over fault budget now made last readable told = (
+  Instr 1,
+  (has_turn p over fault, budget),
+  (λ i. record { state = (now i).state; made = made i; last = last i }),
+  ap (λ (m : Made). m.report) now,
+  readable,
+  told,
+)
+
+-- a call
+pub call_made : (p q : Single) (now : Made) → IsCounted p q → HasEffect (effect p.pc p.x p.memory) Ecall p.pc p.x p.memory q.pc q.x q.memory
+    → now ≡ call (state_of q) 1 (call_number (registers_of q)) (arguments (registers_of q)) → now ≡ instruction (state_of p) 1
+call_made p q now counted h e =
+    let it = calls (effect p.pc p.x p.memory) p.pc p.x p.memory q.pc q.x q.memory h in
+    let registers = still_registers p q it.1 in
+    let called : State → Registers → Made = λ s r. call s 1 (call_number r) (arguments r) in
+    e
+    ∙ ap (λ (s : State). called s (registers_of q)) (still_state p q counted it.1)
+    ∙ ap (λ (r : Registers). called (state_of p) r) (registers ∙ sym (registers_are p))
+    ∙ sym (by p ∙ ap (by_effect (state_of p) 1) it.0)
+
+-- a fault
+pub fault_told : (p q : Single) (sig : ℕ) (now : Made) → IsCounted p q → HasEffect (effect p.pc p.x p.memory) (FaultEvent sig) p.pc p.x p.memory q.pc q.x q.memory
+    → now ≡ faulted (state_of q) 1 sig → now ≡ instruction (state_of p) 1
+fault_told p q sig now counted h e =
+    let it = faults (effect p.pc p.x p.memory) sig p.pc p.x p.memory q.pc q.x q.memory h in
+    e ∙ ap (λ (s : State). faulted s 1 sig) (still_state p q counted it.1) ∙ sym (by p ∙ ap (by_effect (state_of p) 1) it.0)
+
+-- a special return, which is not due
+pub return_told : (p q : Single) (which : Special) (sig : ℕ) (now : Made) → IsCounted p q → HasEffect (effect p.pc p.x p.memory) (ReturnEvent which) p.pc p.x p.memory q.pc q.x q.memory
+    → sig ≡ segmentation_fault → now ≡ faulted (state_of q) 1 sig → now ≡ instruction (state_of p) 1
+return_told p q which sig now counted h same e =
+    let it = returns (effect p.pc p.x p.memory) which p.pc p.x p.memory q.pc q.x q.memory h in
+    e
+    ∙ ap (λ (n : ℕ). faulted (state_of q) 1 n) same
+    ∙ ap (λ (s : State). faulted s 1 segmentation_fault) (still_state p q counted it.1)
+    ∙ sym (by p ∙ ap (by_effect (state_of p) 1) it.0)
+
+-- a delivery
+pub delivery_turn : (p r : Single) (sig : ℕ) (report : Report) → p.over ≡ None → p.fault ≡ Some sig → IsInScope sig
+    → made_of r report ≡ deliver (state_of p) → r.made ≡ p.made → r.last ≡ p.last
+    → IsReadable report r.memory → (report.head ≡ QuietHead → ⊥) → IsTurn p.settings (moment_of p) (MadeTurn report) (moment_of r)
+unfolding state_of
+delivery_turn p r sig report over fault scope now made last readable told = (
+  Deliver,
+  (over, record { thread = 1; signal = sig }, fault_is_next p sig scope fault),
+  (λ i. record { state = (now i).state; made = made i; last = last i }),
+  ap (λ (m : Made). m.report) now,
+  readable,
+  told,
+)
+
+-- the run is over
+pub over_ends : (p : Single) (ending : Ending) → p.over ≡ Some ending → Ends p.settings (moment_of p) ending
+unfolding state_of
+over_ends p ending e = inl e
+
+-- the budget is used up
+pub budget_ends : (p : Single) → p.over ≡ None → p.fault ≡ None → p.made ≡ p.settings.budget → Ends p.settings (moment_of p) Budget
+budget_ends p over fault made = inr (inr (refl, record { used_up = made; tid = 1; turn = has_turn p over fault }))
