@@ -2,8 +2,6 @@
 -- A word is compared as a whole with each row, under the row's mask.
 use Rattle.std.specs.Prelude.{ℕ, ◌+◌, ◌*◌, ◌/◌, ◌%◌, ◌^◌, ◌-◌, ◌<◌, ◌==◌, ◌∷◌, List, [], Option, Some, None, bit_and, if◌then◌else◌, nat_lt}
 use Rattle.rv_table.specs.declared.Instr.{Instr}
-use Rattle.rv_table.specs.declared.Format.{Format}
-use Rattle.rv_table.specs.declared.Format.TheVariants.{R, I, S, B, U, J, Shift}
 
 -- what a row fixes: the opcode (bits 6..0), funct3 (bits 14..12), funct7 (bits 31..25), or the whole word
 pub data Pattern : Type 0 where
@@ -25,6 +23,10 @@ value_of (Opcode opcode) = opcode
 value_of (Funct3 opcode funct3) = funct3 * 2 ^ 12 + opcode
 value_of (Funct7 opcode funct3 funct7) = funct7 * 2 ^ 25 + (funct3 * 2 ^ 12 + opcode)
 value_of (Whole word) = word
+
+-- how the immediate stands in a word: the manual's formats, and the shift amounts of SLLI, SRLI and SRAI
+pub data Format : Type 0 where
+  R I S B U J Shift : Format
 
 -- a row: its number, its pattern, and the format of its immediate
 pub record Row : Type 0 where
@@ -128,23 +130,25 @@ immediate_of J word =
     sign_extended 21 (bits_at word 31 1 * 2 ^ 20 + bits_at word 12 8 * 2 ^ 12 + bits_at word 20 1 * 2 ^ 11 + bits_at word 21 10 * 2)
 immediate_of Shift word = bits_at word 20 5
 
--- the instruction of a word in a row
-abbrev pub instr_of : ℕ → Format → ℕ → Instr
-instr_of number format word = record {
-  row = number;
+-- a row's number and the immediate of a word in the row's format
+abbrev pub with_immediate : ℕ → Option (ℕ × Format) → Option (ℕ × ℕ)
+with_immediate word None = None
+with_immediate word (Some r) = Some (r.0, immediate_of r.1 word)
+
+-- the instruction of a word, from its row's number and its immediate
+abbrev pub instr_from : ℕ → Option (ℕ × ℕ) → Option Instr
+instr_from word None = None
+instr_from word (Some r) = Some record {
+  row = r.0;
   rd = bits_at word 7 5;
   rs1 = bits_at word 15 5;
   rs2 = bits_at word 20 5;
-  imm = immediate_of format word;
+  imm = r.1;
 }
-
-abbrev pub instr_from : Option (ℕ × Format) → ℕ → Option Instr
-instr_from None word = None
-instr_from (Some r) word = Some (instr_of r.0 r.1 word)
 
 -- the instruction that a word stands for, or none where the word is illegal
 abbrev pub decoded : ℕ → Option Instr
-decoded word = instr_from (row_of word) word
+decoded word = instr_from word (with_immediate word (row_of word))
 
 -- the registers that an instruction names are x0 to x31
 abbrev pub NamesRegisters : Instr → Type 0
