@@ -213,7 +213,7 @@ fn sign_extend_12(bits: u32) -> u32
     requires { bits < 2 ^ 12 }
     ensures { result ≡ sign_extended 12 bits }
 {
-    if bits < 0x800 { bits } else { bits + 0xffff_f000 }
+    ((bits << 20).cast_signed() >> 20).cast_unsigned()
 }
 
 /// Thirteen bits, sign-extended to 32.
@@ -221,7 +221,7 @@ fn sign_extend_13(bits: u32) -> u32
     requires { bits < 2 ^ 13 }
     ensures { result ≡ sign_extended 13 bits }
 {
-    if bits < 0x1000 { bits } else { bits + 0xffff_e000 }
+    ((bits << 19).cast_signed() >> 19).cast_unsigned()
 }
 
 /// Twenty-one bits, sign-extended to 32.
@@ -229,5 +229,5 @@ fn sign_extend_21(bits: u32) -> u32
     requires { bits < 2 ^ 21 }
     ensures { result ≡ sign_extended 21 bits }
 {
-    if bits < 0x10_0000 { bits } else { bits + 0xffe0_0000 }
+    ((bits << 11).cast_signed() >> 11).cast_unsigned()
 }
