@@ -4,14 +4,14 @@
 mod memory;
 mod words;
 
-ghost use Rattle.std.specs.Prelude.{ℕ, List, ◌≡◌, ◌<◌, slice_index, slice_set, length, bit_and};
+ghost use Rattle.std.specs.Prelude.{ℕ, List, ◌≡◌, ◌<◌, slice_index};
 ghost use Rattle.rv_table.specs.Table.{NamesRegisters};
-ghost use Rattle.rv_exec.specs.Meaning.{Effect, Goes, effect, effect_of, upper_effect, jump_effect, branch_effect, load_effect, store_effect, writes, jumps, with_register};
+ghost use Rattle.rv_exec.specs.Meaning.{effect, effect_of, branch_effect, load_effect, store_effect, jumps, with_register};
 ghost use Rattle.rv_exec.specs.Words.{sum};
 ghost use Rattle.rv_exec.specs.Outcome.{HasEffect};
 
 pub use memory::{BASE, Memory};
-use rv_table::{Instr, decode};
+use rv_table::{Instr, decode, row};
 use thread_base::Sig;
 
 /// The registers of a thread: the address of its next instruction, and x0 to x31, of which x0 is 0.
@@ -41,6 +41,15 @@ pub enum Event {
     Return(Special),
 }
 
+/// The special address to which a handler of a signal returns.
+pub const HANDLER_RETURN: u32 = 0xffff_fff0;
+
+/// The special address to which a cleanup routine returns, and at which a thread exits.
+pub const CLEANUP_RETURN: u32 = 0xffff_ffe0;
+
+/// The special address to which a thread's start routine returns.
+pub const START_RETURN: u32 = 0xffff_ffd0;
+
 const SIGILL: u32 = 4;
 const SIGTRAP: u32 = 5;
 const SIGBUS: u32 = 7;
@@ -52,14 +61,14 @@ const SIGSEGV: u32 = 11;
 pub fn exec(regs: &mut Regs, mem: &mut Memory) -> Event
     ensures { HasEffect (effect regs.old.pc regs.old.x mem.old) result regs.old.pc regs.old.x mem.old regs.new.pc regs.new.x mem.new }
 {
-    match regs.pc {
-        0xffff_fff0 => return Event::Return(Special::Handler),
-        0xffff_ffe0 => return Event::Return(Special::Cleanup),
-        0xffff_ffd0 => return Event::Return(Special::Start),
-        _ => {}
-    }
+    // a special address is never inside the window
     let Some(word) = mem.read(regs.pc, 4) else {
-        return Event::Fault(Sig::of(SIGSEGV));
+        return match regs.pc {
+            HANDLER_RETURN => Event::Return(Special::Handler),
+            CLEANUP_RETURN => Event::Return(Special::Cleanup),
+            START_RETURN => Event::Return(Special::Start),
+            _ => Event::Fault(Sig::of(SIGSEGV)),
+        };
     };
     let Some(instr) = decode(word) else {
         return Event::Fault(Sig::of(SIGILL));
@@ -70,77 +79,56 @@ pub fn exec(regs: &mut Regs, mem: &mut Memory) -> Event
 impl Regs {
     /// Makes an instruction that was fetched and decoded.
     #[tactic(auto, unfolding(crate::specs::Meaning::effect_of))]
+    #[inline(always)]
     fn make(&mut self, instr: Instr, mem: &mut Memory) -> Event
         requires { NamesRegisters instr }
         ensures { HasEffect (effect_of instr self.old.pc self.old.x mem.old) result self.old.pc self.old.x mem.old self.new.pc self.new.x mem.new }
     {
-        let a = self.x[instr.rs1 as usize];
-        let b = self.x[instr.rs2 as usize];
         match instr.row {
-            0..=1 => self.load_upper(instr),
-            2..=3 => self.jump(instr),
-            4..=9 => self.branch(instr),
-            10..=14 => self.load(instr, mem),
-            15..=17 => self.store(instr, mem),
-            18..=26 => self.write(instr.rd, words::compute_with_immediate(instr.row, a, instr.imm)),
-            27..=44 => self.write(instr.rd, words::compute(instr.row, a, b)),
-            45 => self.go_on(),
-            46 => Event::Ecall,
+            row::LUI => self.write(instr.rd, instr.imm),
+            row::AUIPC => self.write(instr.rd, self.pc.wrapping_add(instr.imm)),
+            row::JAL => self.jump(instr.rd, self.pc.wrapping_add(instr.imm)),
+            row::JALR => {
+                let target = self.x[instr.rs1 as usize].wrapping_add(instr.imm);
+                self.jump(instr.rd, target & 0xffff_fffe)
+            }
+            row::BEQ..=row::BGEU => self.branch(instr),
+            row::LB..=row::LHU => self.load(instr, mem),
+            row::SB..=row::SW => self.store(instr, mem),
+            row::ADDI..=row::SRAI => {
+                let a = self.x[instr.rs1 as usize];
+                self.write(instr.rd, words::compute_with_immediate(instr.row, a, instr.imm))
+            }
+            row::ADD..=row::REMU => {
+                let a = self.x[instr.rs1 as usize];
+                let b = self.x[instr.rs2 as usize];
+                self.write(instr.rd, words::compute(instr.row, a, b))
+            }
+            row::FENCE => self.go_on(),
+            row::ECALL => Event::Ecall,
             _ => Event::Fault(Sig::of(SIGTRAP)),
         }
     }
 
-    /// LUI, AUIPC.
-    #[tactic(auto, unfolding(crate::specs::Meaning::upper_effect))]
-    fn load_upper(&mut self, instr: Instr) -> Event
-        requires { NamesRegisters instr }
-        ensures { (mem : List ℕ) → HasEffect (upper_effect instr self.old.pc self.old.x mem) result self.old.pc self.old.x mem self.new.pc self.new.x mem }
-    {
-        if instr.row == 0 {
-            self.write(instr.rd, instr.imm)
-        } else {
-            self.write(instr.rd, self.pc.wrapping_add(instr.imm))
-        }
-    }
-
-    /// JAL, JALR.
-    #[tactic(auto, unfolding(crate::specs::Meaning::jump_effect))]
-    fn jump(&mut self, instr: Instr) -> Event
-        requires { NamesRegisters instr }
-        ensures { (mem : List ℕ) → HasEffect (jump_effect instr self.old.pc self.old.x mem) result self.old.pc self.old.x mem self.new.pc self.new.x mem }
-    {
-        let target = if instr.row == 2 {
-            self.pc.wrapping_add(instr.imm)
-        } else {
-            self.x[instr.rs1 as usize].wrapping_add(instr.imm) & 0xffff_fffe
-        };
-        if target % 4 != 0 {
-            return Event::Fault(Sig::of(SIGBUS));
-        }
-        self.set(instr.rd, self.pc.wrapping_add(4));
-        self.pc = target;
-        Event::Next
-    }
-
     /// A branch: to its target where its relation holds, else on.
     #[tactic(auto, unfolding(crate::specs::Meaning::branch_effect))]
+    #[inline(always)]
     fn branch(&mut self, instr: Instr) -> Event
         requires { NamesRegisters instr }
         ensures { (mem : List ℕ) → HasEffect (branch_effect instr self.old.pc self.old.x mem) result self.old.pc self.old.x mem self.new.pc self.new.x mem }
     {
-        if !words::takes(instr.row, self.x[instr.rs1 as usize], self.x[instr.rs2 as usize]) {
-            return self.go_on();
+        let a = self.x[instr.rs1 as usize];
+        let b = self.x[instr.rs2 as usize];
+        if words::takes(instr.row, a, b) {
+            self.jump(0, self.pc.wrapping_add(instr.imm))
+        } else {
+            self.go_on()
         }
-        let target = self.pc.wrapping_add(instr.imm);
-        if target % 4 != 0 {
-            return Event::Fault(Sig::of(SIGBUS));
-        }
-        self.pc = target;
-        Event::Next
     }
 
     /// A load.
     #[tactic(auto, unfolding(crate::specs::Meaning::load_effect))]
+    #[inline(always)]
     fn load(&mut self, instr: Instr, mem: &Memory) -> Event
         requires { NamesRegisters instr }
         ensures { HasEffect (load_effect instr self.old.pc self.old.x mem.now) result self.old.pc self.old.x mem.now self.new.pc self.new.x mem.now }
@@ -158,6 +146,7 @@ impl Regs {
 
     /// A store.
     #[tactic(auto, unfolding(crate::specs::Meaning::store_effect))]
+    #[inline(always)]
     fn store(&mut self, instr: Instr, mem: &mut Memory) -> Event
         requires { NamesRegisters instr }
         ensures { HasEffect (store_effect instr self.old.pc self.old.x mem.old) result self.old.pc self.old.x mem.old self.new.pc self.new.x mem.new }
@@ -173,7 +162,23 @@ impl Regs {
         self.go_on()
     }
 
+    /// Goes to a target, with the address of the next word in a register; a fault where the target
+    /// is not a multiple of 4.
+    #[inline(always)]
+    fn jump(&mut self, rd: u8, target: u32) -> Event
+        requires { rd < 32 }
+        ensures { (mem : List ℕ) → HasEffect (jumps target (with_register self.old.x rd (sum self.old.pc 4)) mem) result self.old.pc self.old.x mem self.new.pc self.new.x mem }
+    {
+        if target % 4 != 0 {
+            return Event::Fault(Sig::of(SIGBUS));
+        }
+        self.set(rd, self.pc.wrapping_add(4));
+        self.pc = target;
+        Event::Next
+    }
+
     /// Writes a register and goes on with the next word.
+    #[inline(always)]
     fn write(&mut self, rd: u8, value: u32) -> Event
         requires { rd < 32 }
         ensures event { result ≡ Event.Next }
@@ -185,6 +190,7 @@ impl Regs {
     }
 
     /// Goes on with the next word.
+    #[inline(always)]
     fn go_on(&mut self) -> Event
         ensures event { result ≡ Event.Next }
         ensures pc { self.new.pc ≡ sum self.old.pc 4 }
@@ -195,6 +201,7 @@ impl Regs {
     }
 
     /// Writes a register; a write to x0 is lost.
+    #[inline(always)]
     fn set(&mut self, rd: u8, value: u32)
         requires { rd < 32 }
         ensures pc { self.new.pc ≡ self.old.pc }

@@ -56,7 +56,8 @@ impl Memory {
         ensures limit { length self.now ≤ 67108864 }
     {
         let size = self.bytes.len();
-        count <= size && BASE <= addr && (addr - BASE) as usize <= size - count
+        // below BASE the difference wraps to more than any size
+        count <= size && addr.wrapping_sub(BASE) as usize <= size - count
     }
 
     /// The little-endian number of 1, 2 or 4 bytes at an address; None exactly where one is outside.
@@ -65,6 +66,7 @@ impl Memory {
         ensures some { IsSome result ↔ IsTrue (is_inside (length self.now) addr width) }
         ensures value { IfSome result (λ n. n ≡ number_at self.now addr width) }
         ensures range { IfSome result (λ n. n < 256 ^ width) }
+        ensures limit { length self.now ≤ 67108864 }
     {
         if !self.has(addr, width as usize) {
             return None;

@@ -3,20 +3,22 @@ ghost use Rattle.rv_exec.specs.Meaning.{computed, computed_with_immediate, exten
 ghost use Rattle.rv_exec.specs.Window.{IsWidth};
 ghost use Rattle.rv_exec.specs.Words.{flag, is_below_signed, difference, shifted_left, shifted_right, shifted_right_signed, low_product, high_product, high_product_signed, high_product_mixed, quotient, quotient_signed, remainder, remainder_signed};
 
+use rv_table::row;
+
 /// What a row of arithmetic with an immediate computes of a register and the immediate.
 #[tactic(auto, unfolding(crate::specs::Meaning::computed_with_immediate))]
 pub fn compute_with_immediate(row: u8, a: u32, imm: u32) -> u32
     ensures { result ≡ computed_with_immediate row a imm }
 {
     match row {
-        18 => a.wrapping_add(imm),
-        19 => u32::from(is_less(a, imm)),
-        20 => u32::from(a < imm),
-        21 => a ^ imm,
-        22 => a | imm,
-        23 => a & imm,
-        24 => a.wrapping_shl(imm),
-        25 => a.wrapping_shr(imm),
+        row::ADDI => a.wrapping_add(imm),
+        row::SLTI => u32::from(is_less(a, imm)),
+        row::SLTIU => u32::from(a < imm),
+        row::XORI => a ^ imm,
+        row::ORI => a | imm,
+        row::ANDI => a & imm,
+        row::SLLI => a.wrapping_shl(imm),
+        row::SRLI => a.wrapping_shr(imm),
         _ => shift_right_signed(a, imm),
     }
 }
@@ -27,23 +29,23 @@ pub fn compute(row: u8, a: u32, b: u32) -> u32
     ensures { result ≡ computed row a b }
 {
     match row {
-        27 => a.wrapping_add(b),
-        28 => a.wrapping_shl(b),
-        29 => u32::from(is_less(a, b)),
-        30 => u32::from(a < b),
-        31 => a ^ b,
-        32 => a.wrapping_shr(b),
-        33 => a | b,
-        34 => a & b,
-        35 => a.wrapping_sub(b),
-        36 => shift_right_signed(a, b),
-        37 => a.wrapping_mul(b),
-        38 => multiply_high_signed(a, b),
-        39 => multiply_high_mixed(a, b),
-        40 => multiply_high(a, b),
-        41 => divide_signed(a, b),
-        42 => divide(a, b),
-        43 => remain_signed(a, b),
+        row::ADD => a.wrapping_add(b),
+        row::SLL => a.wrapping_shl(b),
+        row::SLT => u32::from(is_less(a, b)),
+        row::SLTU => u32::from(a < b),
+        row::XOR => a ^ b,
+        row::SRL => a.wrapping_shr(b),
+        row::OR => a | b,
+        row::AND => a & b,
+        row::SUB => a.wrapping_sub(b),
+        row::SRA => shift_right_signed(a, b),
+        row::MUL => a.wrapping_mul(b),
+        row::MULH => multiply_high_signed(a, b),
+        row::MULHSU => multiply_high_mixed(a, b),
+        row::MULHU => multiply_high(a, b),
+        row::DIV => divide_signed(a, b),
+        row::DIVU => divide(a, b),
+        row::REM => remain_signed(a, b),
         _ => remain(a, b),
     }
 }
@@ -54,11 +56,11 @@ pub fn takes(row: u8, a: u32, b: u32) -> bool
     ensures { result ≡ is_taken row a b }
 {
     match row {
-        4 => a == b,
-        5 => a != b,
-        6 => is_less(a, b),
-        7 => !is_less(a, b),
-        8 => a < b,
+        row::BEQ => a == b,
+        row::BNE => a != b,
+        row::BLT => is_less(a, b),
+        row::BGE => !is_less(a, b),
+        row::BLTU => a < b,
         _ => a >= b,
     }
 }
@@ -70,8 +72,8 @@ pub fn load_width(row: u8) -> u32
     ensures width { IsWidth result }
 {
     match row {
-        10 | 13 => 1,
-        11 | 14 => 2,
+        row::LB | row::LBU => 1,
+        row::LH | row::LHU => 2,
         _ => 4,
     }
 }
@@ -83,8 +85,8 @@ pub fn store_width(row: u8) -> u32
     ensures width { IsWidth result }
 {
     match row {
-        15 => 1,
-        16 => 2,
+        row::SB => 1,
+        row::SH => 2,
         _ => 4,
     }
 }
@@ -96,8 +98,8 @@ pub fn extend(row: u8, number: u32) -> u32
     ensures { result ≡ extended row number }
 {
     match row {
-        10 if number >= 0x80 => number + 0xffff_ff00,
-        11 if number >= 0x8000 => number + 0xffff_0000,
+        row::LB => ((number << 24).cast_signed() >> 24).cast_unsigned(),
+        row::LH => ((number << 16).cast_signed() >> 16).cast_unsigned(),
         _ => number,
     }
 }

@@ -2,8 +2,7 @@ use Rattle.std.proofs.Common.{◌≡◌, ℕ, ◌+◌, ◌*◌, ◌/◌, ◌%◌
 use Rattle.std.specs.Prelude.{bit_and}
 use Rattle.std.proofs.lemmas.Nat.{and_block, shr_split, and_mask}
 use Rattle.std.proofs.lemmas.Bool.Decides.{nat_tests}
-use Rattle.rv_table.specs.declared.Format.{Format}
-use Rattle.rv_table.specs.Table.{Pattern, Opcode, Funct3, Funct7, Whole, Row, rows, mask_of, value_of, row_among, row_of, immediate_of, decoded}
+use Rattle.rv_table.specs.Table.{Pattern, Opcode, Funct3, Funct7, Whole, Row, rows, mask_of, value_of, row_among, row_of, with_immediate, decoded}
 use Rattle.rv_table.specs.declared.Instr.{Instr}
 use Rattle.rv_table.specs.Fields.{has_fields, among_by_fields, row_by_fields}
 
@@ -78,9 +77,17 @@ unfolding row_of row_by_fields
 row_is w h = among rows w h refl
 
 -- the instruction from its row and its fields
-pub decodes : (w n : ℕ) (f : Format) (imm : ℕ) → w < 2 ^ 32 → Some (n, f) ≡ row_by_fields (bit_and w 0x7f) (bit_and (w / 2 ^ 12) 7) (w / 2 ^ 25) w → imm ≡ immediate_of f w → ◌≡◌ {A = Option Instr} (Some record { row = n; rd = bit_and (w / 2 ^ 7) 31; rs1 = bit_and (w / 2 ^ 15) 31; rs2 = bit_and (w / 2 ^ 20) 31; imm = imm }) (decoded w)
-decodes w n f imm h e i =
+pub decodes : (w n imm : ℕ) → w < 2 ^ 32
+    → Some (n, imm) ≡ with_immediate w (row_by_fields (bit_and w 0x7f) (bit_and (w / 2 ^ 12) 7) (w / 2 ^ 25) w)
+    → ◌≡◌ {A = Option Instr} (Some record { row = n; rd = bit_and (w / 2 ^ 7) 31; rs1 = bit_and (w / 2 ^ 15) 31; rs2 = bit_and (w / 2 ^ 20) 31; imm = imm }) (decoded w)
+decodes w n imm h e =
     let rd = and_mask (w / 2 ^ 7) 5 in
     let rs1 = and_mask (w / 2 ^ 15) 5 in
     let rs2 = and_mask (w / 2 ^ 20) 5 in
     rw (row_is w h, ← e) cc
+
+-- a word is illegal where no row has its fields
+pub refuses : (w : ℕ) → w < 2 ^ 32
+    → None ≡ with_immediate w (row_by_fields (bit_and w 0x7f) (bit_and (w / 2 ^ 12) 7) (w / 2 ^ 25) w)
+    → None ≡ decoded w
+refuses w h e = rw (row_is w h, ← e) refl

@@ -1,7 +1,6 @@
 -- The same table, tested field by field.
 use Rattle.std.specs.Prelude.{ℕ, ◌==◌, ◌&&◌, List, [], ◌∷◌, Option, Some, None, Bool, if◌then◌else◌}
-use Rattle.rv_table.specs.Table.{Pattern, Opcode, Funct3, Funct7, Whole, Row, rows}
-use Rattle.rv_table.specs.declared.Format.{Format}
+use Rattle.rv_table.specs.Table.{Pattern, Opcode, Funct3, Funct7, Whole, Row, Format, rows}
 
 -- a word with this opcode, funct3 and funct7 has the pattern
 abbrev pub has_fields : Pattern → ℕ → ℕ → ℕ → ℕ → Bool
@@ -21,3 +20,8 @@ among_by_fields (r ∷ rs) opcode funct3 funct7 word =
 -- number and format of the row of a word with these fields
 unfoldable pub row_by_fields : ℕ → ℕ → ℕ → ℕ → Option (ℕ × Format)
 row_by_fields opcode funct3 funct7 word = among_by_fields rows opcode funct3 funct7 word
+
+-- a row's number with a format
+abbrev pub with_format : Format → Option ℕ → Option (ℕ × Format)
+with_format format None = None
+with_format format (Some number) = Some (number, format)

@@ -2,8 +2,7 @@
 -- A word is compared as a whole with each row, under the row's mask.
 use Rattle.std.specs.Prelude.{ℕ, ◌+◌, ◌*◌, ◌/◌, ◌%◌, ◌^◌, ◌-◌, ◌<◌, ◌==◌, ◌∷◌, List, [], Option, Some, None, bit_and, if◌then◌else◌, nat_lt}
 use Rattle.rv_table.specs.declared.Instr.{Instr}
-use Rattle.rv_table.specs.declared.Format.{Format}
-use Rattle.rv_table.specs.declared.Format.TheVariants.{R, I, S, B, U, J, Shift}
+use Rattle.rv_table.specs.Names.{LUI, AUIPC, JAL, JALR, BEQ, BNE, BLT, BGE, BLTU, BGEU, LB, LH, LW, LBU, LHU, SB, SH, SW, ADDI, SLTI, SLTIU, XORI, ORI, ANDI, SLLI, SRLI, SRAI, ADD, SLL, SLT, SLTU, XOR, SRL, OR, AND, SUB, SRA, MUL, MULH, MULHSU, MULHU, DIV, DIVU, REM, REMU, FENCE, ECALL, EBREAK}
 
 -- what a row fixes: the opcode (bits 6..0), funct3 (bits 14..12), funct7 (bits 31..25), or the whole word
 pub data Pattern : Type 0 where
@@ -26,6 +25,10 @@ value_of (Funct3 opcode funct3) = funct3 * 2 ^ 12 + opcode
 value_of (Funct7 opcode funct3 funct7) = funct7 * 2 ^ 25 + (funct3 * 2 ^ 12 + opcode)
 value_of (Whole word) = word
 
+-- how the immediate stands in a word: the manual's formats, and the shift amounts of SLLI, SRLI and SRAI
+pub data Format : Type 0 where
+  R I S B U J Shift : Format
+
 -- a row: its number, its pattern, and the format of its immediate
 pub record Row : Type 0 where
   pub number : ℕ
@@ -38,64 +41,55 @@ row number pattern format = record { number = number; pattern = pattern; format 
 -- the table, in the manual's order of opcodes and of funct3
 abbrev pub rows : List Row
 rows =
-    -- LUI, AUIPC, JAL, JALR
-    row 0 (Opcode 0x37) U
-    ∷ row 1 (Opcode 0x17) U
-    ∷ row 2 (Opcode 0x6f) J
-    ∷ row 3 (Funct3 0x67 0) I
-    -- BEQ, BNE, BLT, BGE, BLTU, BGEU
-    ∷ row 4 (Funct3 0x63 0) B
-    ∷ row 5 (Funct3 0x63 1) B
-    ∷ row 6 (Funct3 0x63 4) B
-    ∷ row 7 (Funct3 0x63 5) B
-    ∷ row 8 (Funct3 0x63 6) B
-    ∷ row 9 (Funct3 0x63 7) B
-    -- LB, LH, LW, LBU, LHU
-    ∷ row 10 (Funct3 0x03 0) I
-    ∷ row 11 (Funct3 0x03 1) I
-    ∷ row 12 (Funct3 0x03 2) I
-    ∷ row 13 (Funct3 0x03 4) I
-    ∷ row 14 (Funct3 0x03 5) I
-    -- SB, SH, SW
-    ∷ row 15 (Funct3 0x23 0) S
-    ∷ row 16 (Funct3 0x23 1) S
-    ∷ row 17 (Funct3 0x23 2) S
-    -- ADDI, SLTI, SLTIU, XORI, ORI, ANDI, SLLI, SRLI, SRAI
-    ∷ row 18 (Funct3 0x13 0) I
-    ∷ row 19 (Funct3 0x13 2) I
-    ∷ row 20 (Funct3 0x13 3) I
-    ∷ row 21 (Funct3 0x13 4) I
-    ∷ row 22 (Funct3 0x13 6) I
-    ∷ row 23 (Funct3 0x13 7) I
-    ∷ row 24 (Funct7 0x13 1 0) Shift
-    ∷ row 25 (Funct7 0x13 5 0) Shift
-    ∷ row 26 (Funct7 0x13 5 0x20) Shift
-    -- ADD, SLL, SLT, SLTU, XOR, SRL, OR, AND
-    ∷ row 27 (Funct7 0x33 0 0) R
-    ∷ row 28 (Funct7 0x33 1 0) R
-    ∷ row 29 (Funct7 0x33 2 0) R
-    ∷ row 30 (Funct7 0x33 3 0) R
-    ∷ row 31 (Funct7 0x33 4 0) R
-    ∷ row 32 (Funct7 0x33 5 0) R
-    ∷ row 33 (Funct7 0x33 6 0) R
-    ∷ row 34 (Funct7 0x33 7 0) R
-    -- SUB, SRA
-    ∷ row 35 (Funct7 0x33 0 0x20) R
-    ∷ row 36 (Funct7 0x33 5 0x20) R
-    -- MUL, MULH, MULHSU, MULHU, DIV, DIVU, REM, REMU
-    ∷ row 37 (Funct7 0x33 0 1) R
-    ∷ row 38 (Funct7 0x33 1 1) R
-    ∷ row 39 (Funct7 0x33 2 1) R
-    ∷ row 40 (Funct7 0x33 3 1) R
-    ∷ row 41 (Funct7 0x33 4 1) R
-    ∷ row 42 (Funct7 0x33 5 1) R
-    ∷ row 43 (Funct7 0x33 6 1) R
-    ∷ row 44 (Funct7 0x33 7 1) R
-    -- FENCE, whose other fields are not looked at
-    ∷ row 45 (Funct3 0x0f 0) R
-    -- ECALL, EBREAK
-    ∷ row 46 (Whole 0x00000073) R
-    ∷ row 47 (Whole 0x00100073) R
+    row LUI (Opcode 0x37) U
+    ∷ row AUIPC (Opcode 0x17) U
+    ∷ row JAL (Opcode 0x6f) J
+    ∷ row JALR (Funct3 0x67 0) I
+    ∷ row BEQ (Funct3 0x63 0) B
+    ∷ row BNE (Funct3 0x63 1) B
+    ∷ row BLT (Funct3 0x63 4) B
+    ∷ row BGE (Funct3 0x63 5) B
+    ∷ row BLTU (Funct3 0x63 6) B
+    ∷ row BGEU (Funct3 0x63 7) B
+    ∷ row LB (Funct3 0x03 0) I
+    ∷ row LH (Funct3 0x03 1) I
+    ∷ row LW (Funct3 0x03 2) I
+    ∷ row LBU (Funct3 0x03 4) I
+    ∷ row LHU (Funct3 0x03 5) I
+    ∷ row SB (Funct3 0x23 0) S
+    ∷ row SH (Funct3 0x23 1) S
+    ∷ row SW (Funct3 0x23 2) S
+    ∷ row ADDI (Funct3 0x13 0) I
+    ∷ row SLTI (Funct3 0x13 2) I
+    ∷ row SLTIU (Funct3 0x13 3) I
+    ∷ row XORI (Funct3 0x13 4) I
+    ∷ row ORI (Funct3 0x13 6) I
+    ∷ row ANDI (Funct3 0x13 7) I
+    ∷ row SLLI (Funct7 0x13 1 0) Shift
+    ∷ row SRLI (Funct7 0x13 5 0) Shift
+    ∷ row SRAI (Funct7 0x13 5 0x20) Shift
+    ∷ row ADD (Funct7 0x33 0 0) R
+    ∷ row SLL (Funct7 0x33 1 0) R
+    ∷ row SLT (Funct7 0x33 2 0) R
+    ∷ row SLTU (Funct7 0x33 3 0) R
+    ∷ row XOR (Funct7 0x33 4 0) R
+    ∷ row SRL (Funct7 0x33 5 0) R
+    ∷ row OR (Funct7 0x33 6 0) R
+    ∷ row AND (Funct7 0x33 7 0) R
+    ∷ row SUB (Funct7 0x33 0 0x20) R
+    ∷ row SRA (Funct7 0x33 5 0x20) R
+    ∷ row MUL (Funct7 0x33 0 1) R
+    ∷ row MULH (Funct7 0x33 1 1) R
+    ∷ row MULHSU (Funct7 0x33 2 1) R
+    ∷ row MULHU (Funct7 0x33 3 1) R
+    ∷ row DIV (Funct7 0x33 4 1) R
+    ∷ row DIVU (Funct7 0x33 5 1) R
+    ∷ row REM (Funct7 0x33 6 1) R
+    ∷ row REMU (Funct7 0x33 7 1) R
+    -- of FENCE the other fields are not looked at
+    ∷ row FENCE (Funct3 0x0f 0) R
+    ∷ row ECALL (Whole 0x00000073) R
+    ∷ row EBREAK (Whole 0x00100073) R
     ∷ []
 
 -- number and format of the first of these rows that a word matches
@@ -128,23 +122,25 @@ immediate_of J word =
     sign_extended 21 (bits_at word 31 1 * 2 ^ 20 + bits_at word 12 8 * 2 ^ 12 + bits_at word 20 1 * 2 ^ 11 + bits_at word 21 10 * 2)
 immediate_of Shift word = bits_at word 20 5
 
--- the instruction of a word in a row
-abbrev pub instr_of : ℕ → Format → ℕ → Instr
-instr_of number format word = record {
-  row = number;
+-- a row's number and the immediate of a word in the row's format
+abbrev pub with_immediate : ℕ → Option (ℕ × Format) → Option (ℕ × ℕ)
+with_immediate word None = None
+with_immediate word (Some r) = Some (r.0, immediate_of r.1 word)
+
+-- the instruction of a word, from its row's number and its immediate
+abbrev pub instr_from : ℕ → Option (ℕ × ℕ) → Option Instr
+instr_from word None = None
+instr_from word (Some r) = Some record {
+  row = r.0;
   rd = bits_at word 7 5;
   rs1 = bits_at word 15 5;
   rs2 = bits_at word 20 5;
-  imm = immediate_of format word;
+  imm = r.1;
 }
-
-abbrev pub instr_from : Option (ℕ × Format) → ℕ → Option Instr
-instr_from None word = None
-instr_from (Some r) word = Some (instr_of r.0 r.1 word)
 
 -- the instruction that a word stands for, or none where the word is illegal
 abbrev pub decoded : ℕ → Option Instr
-decoded word = instr_from (row_of word) word
+decoded word = instr_from word (with_immediate word (row_of word))
 
 -- the registers that an instruction names are x0 to x31
 abbrev pub NamesRegisters : Instr → Type 0

@@ -1,9 +1,11 @@
 //! The table of RV32IM instructions: which word is which instruction, and what its fields say.
 #![tactic(auto)]
 
-ghost use Rattle.std.specs.Prelude.{◌≡◌, ◌<◌, ◌^◌, IfSome};
-ghost use Rattle.rv_table.specs.Fields.{row_by_fields};
-ghost use Rattle.rv_table.specs.Table.{NamesRegisters, decoded, immediate_of, sign_extended};
+pub mod row;
+
+ghost use Rattle.std.specs.Prelude.{ℕ, ◌≡◌, ◌⊎◌, ◌<◌, ◌^◌, IfSome};
+ghost use Rattle.rv_table.specs.Fields.{row_by_fields, with_format};
+ghost use Rattle.rv_table.specs.Table.{NamesRegisters, decoded, immediate_of, sign_extended, R, I, S, B, U, J, Shift};
 
 /// A decoded instruction of RV32IM.
 ///
@@ -19,192 +21,174 @@ pub struct Instr {
     pub imm: u32,
 }
 
-/// How the immediate stands in a word: the formats of the RISC-V manual, with one for shift amounts.
-#[derive(Clone, Copy)]
-enum Format {
-    R,
-    I,
-    S,
-    B,
-    U,
-    J,
-    Shift,
-}
-
 /// The instruction that a word stands for, by RV32I and M of the RISC-V manual.
 /// None exactly where the word is illegal: no row of the table matches it.
-#[tactic(auto, using(crate::proofs::Rows::row_is, crate::proofs::Rows::decodes))]
+#[tactic(auto, using(crate::proofs::Rows::row_is))]
 pub fn decode(word: u32) -> Option<Instr>
     ensures row { result ≡ decoded word }
     ensures registers { IfSome result NamesRegisters }
 {
-    let (row, format) = row_of(word & 0x7f, (word >> 12) & 7, word >> 25, word)?;
+    let funct3 = (word >> 12) & 7;
+    let (row, imm) = match word & 0x7f {
+        0x37 => (row::LUI, immediate_u(word)),
+        0x17 => (row::AUIPC, immediate_u(word)),
+        0x6f => (row::JAL, immediate_j(word)),
+        0x67 if funct3 == 0 => (row::JALR, immediate_i(word)),
+        0x63 => (branch_row(funct3)?, immediate_b(word)),
+        0x03 => (load_row(funct3)?, immediate_i(word)),
+        0x23 => (store_row(funct3)?, immediate_s(word)),
+        0x13 => match funct3 {
+            0 => (row::ADDI, immediate_i(word)),
+            2 => (row::SLTI, immediate_i(word)),
+            3 => (row::SLTIU, immediate_i(word)),
+            4 => (row::XORI, immediate_i(word)),
+            6 => (row::ORI, immediate_i(word)),
+            7 => (row::ANDI, immediate_i(word)),
+            _ => (shift_row(funct3, word >> 25)?, shift_amount(word)),
+        },
+        0x33 => (register_row(funct3, word >> 25)?, 0),
+        0x0f if funct3 == 0 => (row::FENCE, 0),
+        0x73 => (system_row(word)?, 0),
+        _ => return None,
+    };
     Some(Instr {
         row,
         rd: ((word >> 7) & 0x1f) as u8,
         rs1: ((word >> 15) & 0x1f) as u8,
         rs2: ((word >> 20) & 0x1f) as u8,
-        imm: immediate(format, word),
+        imm,
     })
-}
-
-/// The row of a word of these fields, and its format.
-#[tactic(auto, unfolding(crate::specs::Fields::row_by_fields))]
-fn row_of(opcode: u32, funct3: u32, funct7: u32, word: u32) -> Option<(u8, Format)>
-    ensures { result ≡ row_by_fields opcode funct3 funct7 word }
-{
-    match opcode {
-        0x37 => Some((0, Format::U)),
-        0x17 => Some((1, Format::U)),
-        0x6f => Some((2, Format::J)),
-        0x67 if funct3 == 0 => Some((3, Format::I)),
-        0x63 => branch_row(funct3),
-        0x03 => load_row(funct3),
-        0x23 => store_row(funct3),
-        0x13 => immediate_row(funct3, funct7),
-        0x33 => register_row(funct3, funct7),
-        0x0f if funct3 == 0 => Some((45, Format::R)),
-        0x73 => system_row(word),
-        _ => None,
-    }
 }
 
 /// The rows of opcode 0x63, the conditional branches.
 #[tactic(auto, unfolding(crate::specs::Fields::row_by_fields))]
-fn branch_row(funct3: u32) -> Option<(u8, Format)>
-    ensures { result ≡ row_by_fields 0x63 funct3 0 0 }
+fn branch_row(funct3: u32) -> Option<u8>
+    ensures { row_by_fields 0x63 funct3 0 0 ≡ with_format B result }
 {
     match funct3 {
-        0 => Some((4, Format::B)),
-        1 => Some((5, Format::B)),
-        4 => Some((6, Format::B)),
-        5 => Some((7, Format::B)),
-        6 => Some((8, Format::B)),
-        7 => Some((9, Format::B)),
+        0 => Some(row::BEQ),
+        1 => Some(row::BNE),
+        4 => Some(row::BLT),
+        5 => Some(row::BGE),
+        6 => Some(row::BLTU),
+        7 => Some(row::BGEU),
         _ => None,
     }
 }
 
 /// The rows of opcode 0x03, the loads.
 #[tactic(auto, unfolding(crate::specs::Fields::row_by_fields))]
-fn load_row(funct3: u32) -> Option<(u8, Format)>
-    ensures { result ≡ row_by_fields 0x03 funct3 0 0 }
+fn load_row(funct3: u32) -> Option<u8>
+    ensures { row_by_fields 0x03 funct3 0 0 ≡ with_format I result }
 {
     match funct3 {
-        0 => Some((10, Format::I)),
-        1 => Some((11, Format::I)),
-        2 => Some((12, Format::I)),
-        4 => Some((13, Format::I)),
-        5 => Some((14, Format::I)),
+        0 => Some(row::LB),
+        1 => Some(row::LH),
+        2 => Some(row::LW),
+        4 => Some(row::LBU),
+        5 => Some(row::LHU),
         _ => None,
     }
 }
 
 /// The rows of opcode 0x23, the stores.
 #[tactic(auto, unfolding(crate::specs::Fields::row_by_fields))]
-fn store_row(funct3: u32) -> Option<(u8, Format)>
-    ensures { result ≡ row_by_fields 0x23 funct3 0 0 }
+fn store_row(funct3: u32) -> Option<u8>
+    ensures { row_by_fields 0x23 funct3 0 0 ≡ with_format S result }
 {
     match funct3 {
-        0 => Some((15, Format::S)),
-        1 => Some((16, Format::S)),
-        2 => Some((17, Format::S)),
+        0 => Some(row::SB),
+        1 => Some(row::SH),
+        2 => Some(row::SW),
         _ => None,
     }
 }
 
-/// The rows of opcode 0x13, arithmetic with an immediate.
+/// The rows of opcode 0x13 that shift by an immediate.
 #[tactic(auto, unfolding(crate::specs::Fields::row_by_fields))]
-fn immediate_row(funct3: u32, funct7: u32) -> Option<(u8, Format)>
-    ensures { result ≡ row_by_fields 0x13 funct3 funct7 0 }
+fn shift_row(funct3: u32, funct7: u32) -> Option<u8>
+    requires { (funct3 ≡ 1) ⊎ (funct3 ≡ 5) }
+    ensures { row_by_fields 0x13 funct3 funct7 0 ≡ with_format Shift result }
 {
     match (funct3, funct7) {
-        (0, _) => Some((18, Format::I)),
-        (2, _) => Some((19, Format::I)),
-        (3, _) => Some((20, Format::I)),
-        (4, _) => Some((21, Format::I)),
-        (6, _) => Some((22, Format::I)),
-        (7, _) => Some((23, Format::I)),
-        (1, 0) => Some((24, Format::Shift)),
-        (5, 0) => Some((25, Format::Shift)),
-        (5, 0x20) => Some((26, Format::Shift)),
+        (1, 0) => Some(row::SLLI),
+        (5, 0) => Some(row::SRLI),
+        (5, 0x20) => Some(row::SRAI),
         _ => None,
     }
 }
 
 /// The rows of opcode 0x33, arithmetic with two registers.
 #[tactic(auto, unfolding(crate::specs::Fields::row_by_fields))]
-fn register_row(funct3: u32, funct7: u32) -> Option<(u8, Format)>
-    ensures { result ≡ row_by_fields 0x33 funct3 funct7 0 }
+fn register_row(funct3: u32, funct7: u32) -> Option<u8>
+    ensures { row_by_fields 0x33 funct3 funct7 0 ≡ with_format R result }
 {
     match (funct7, funct3) {
-        (0, 0) => Some((27, Format::R)),
-        (0, 1) => Some((28, Format::R)),
-        (0, 2) => Some((29, Format::R)),
-        (0, 3) => Some((30, Format::R)),
-        (0, 4) => Some((31, Format::R)),
-        (0, 5) => Some((32, Format::R)),
-        (0, 6) => Some((33, Format::R)),
-        (0, 7) => Some((34, Format::R)),
-        (0x20, 0) => Some((35, Format::R)),
-        (0x20, 5) => Some((36, Format::R)),
-        (1, 0) => Some((37, Format::R)),
-        (1, 1) => Some((38, Format::R)),
-        (1, 2) => Some((39, Format::R)),
-        (1, 3) => Some((40, Format::R)),
-        (1, 4) => Some((41, Format::R)),
-        (1, 5) => Some((42, Format::R)),
-        (1, 6) => Some((43, Format::R)),
-        (1, 7) => Some((44, Format::R)),
+        (0, 0) => Some(row::ADD),
+        (0, 1) => Some(row::SLL),
+        (0, 2) => Some(row::SLT),
+        (0, 3) => Some(row::SLTU),
+        (0, 4) => Some(row::XOR),
+        (0, 5) => Some(row::SRL),
+        (0, 6) => Some(row::OR),
+        (0, 7) => Some(row::AND),
+        (0x20, 0) => Some(row::SUB),
+        (0x20, 5) => Some(row::SRA),
+        (1, 0) => Some(row::MUL),
+        (1, 1) => Some(row::MULH),
+        (1, 2) => Some(row::MULHSU),
+        (1, 3) => Some(row::MULHU),
+        (1, 4) => Some(row::DIV),
+        (1, 5) => Some(row::DIVU),
+        (1, 6) => Some(row::REM),
+        (1, 7) => Some(row::REMU),
         _ => None,
     }
 }
 
-/// The rows of opcode 0x73, of which two whole words are legal: ECALL and EBREAK.
+/// The rows of opcode 0x73, of which two whole words are legal.
 #[tactic(auto, unfolding(crate::specs::Fields::row_by_fields))]
-fn system_row(word: u32) -> Option<(u8, Format)>
-    ensures { result ≡ row_by_fields 0x73 0 0 word }
+fn system_row(word: u32) -> Option<u8>
+    ensures { row_by_fields 0x73 0 0 word ≡ with_format R result }
 {
     match word {
-        0x0000_0073 => Some((46, Format::R)),
-        0x0010_0073 => Some((47, Format::R)),
+        0x0000_0073 => Some(row::ECALL),
+        0x0010_0073 => Some(row::EBREAK),
         _ => None,
-    }
-}
-
-/// The immediate of a word of this format.
-#[tactic(auto, unfolding(crate::specs::Table::immediate_of))]
-fn immediate(format: Format, word: u32) -> u32
-    ensures { result ≡ immediate_of format word }
-{
-    match format {
-        Format::R => 0,
-        Format::I => immediate_i(word),
-        Format::S => immediate_s(word),
-        Format::B => immediate_b(word),
-        Format::U => word & 0xffff_f000,
-        Format::J => immediate_j(word),
-        Format::Shift => (word >> 20) & 0x1f,
     }
 }
 
 #[tactic(auto, unfolding(crate::specs::Table::immediate_of))]
 fn immediate_i(word: u32) -> u32
-    ensures { result ≡ immediate_of Format.I word }
+    ensures { result ≡ immediate_of I word }
 {
     sign_extend_12(word >> 20)
 }
 
 #[tactic(auto, unfolding(crate::specs::Table::immediate_of))]
 fn immediate_s(word: u32) -> u32
-    ensures { result ≡ immediate_of Format.S word }
+    ensures { result ≡ immediate_of S word }
 {
     sign_extend_12(((word >> 25) << 5) | ((word >> 7) & 0x1f))
 }
 
 #[tactic(auto, unfolding(crate::specs::Table::immediate_of))]
+fn immediate_u(word: u32) -> u32
+    ensures { result ≡ immediate_of U word }
+{
+    word & 0xffff_f000
+}
+
+#[tactic(auto, unfolding(crate::specs::Table::immediate_of))]
+fn shift_amount(word: u32) -> u32
+    ensures { result ≡ immediate_of Shift word }
+{
+    (word >> 20) & 0x1f
+}
+
+#[tactic(auto, unfolding(crate::specs::Table::immediate_of))]
 fn immediate_b(word: u32) -> u32
-    ensures { result ≡ immediate_of Format.B word }
+    ensures { result ≡ immediate_of B word }
 {
     let sign = word >> 31;
     let high = (word >> 7) & 1;
@@ -215,7 +199,7 @@ fn immediate_b(word: u32) -> u32
 
 #[tactic(auto, unfolding(crate::specs::Table::immediate_of))]
 fn immediate_j(word: u32) -> u32
-    ensures { result ≡ immediate_of Format.J word }
+    ensures { result ≡ immediate_of J word }
 {
     let sign = word >> 31;
     let high = (word >> 12) & 0xff;
@@ -229,7 +213,7 @@ fn sign_extend_12(bits: u32) -> u32
     requires { bits < 2 ^ 12 }
     ensures { result ≡ sign_extended 12 bits }
 {
-    if bits < 0x800 { bits } else { bits + 0xffff_f000 }
+    ((bits << 20).cast_signed() >> 20).cast_unsigned()
 }
 
 /// Thirteen bits, sign-extended to 32.
@@ -237,7 +221,7 @@ fn sign_extend_13(bits: u32) -> u32
     requires { bits < 2 ^ 13 }
     ensures { result ≡ sign_extended 13 bits }
 {
-    if bits < 0x1000 { bits } else { bits + 0xffff_e000 }
+    ((bits << 19).cast_signed() >> 19).cast_unsigned()
 }
 
 /// Twenty-one bits, sign-extended to 32.
@@ -245,5 +229,5 @@ fn sign_extend_21(bits: u32) -> u32
     requires { bits < 2 ^ 21 }
     ensures { result ≡ sign_extended 21 bits }
 {
-    if bits < 0x10_0000 { bits } else { bits + 0xffe0_0000 }
+    ((bits << 11).cast_signed() >> 11).cast_unsigned()
 }
