@@ -1,3 +1,4 @@
 pub mod MemoryLemmas
 pub mod NamesLemmas
+pub mod StreamLemmas
 pub mod WritingLemmas

@@ -1,4 +1,4 @@
-ghost use Rattle.std.specs.Prelude.{◌≡◌, ◌≢◌, ◌<◌, ◌≤◌, ◌^◌, ◌+◌, ◌++◌, List, [], ◌∷◌, ℕ, Option, Some, None, Err, take, map, IfOk, OnOk, OnErr, IfSome, IsTrue, IsSome, true, false, reverse, is_some};
+ghost use Rattle.std.specs.Prelude.{◌≡◌, ◌≢◌, ◌<◌, ◌≤◌, ◌^◌, ◌+◌, ◌++◌, List, [], ◌∷◌, ℕ, Option, Some, None, Err, take, map, IfOk, OnOk, OnErr, IfSome, IsTrue, IsSome, true, false, reverse, is_some, length};
 ghost use Rattle.std.specs.Option.{option_map};
 ghost use Rattle.std.specs.Str.{bytes_eq};
 ghost use Rattle.std.specs.List.{find};
@@ -55,6 +55,7 @@ fn find_held<'a>(held: &'a [Held], name: &str) -> Option<&'a Held>
 fn read_held(alloc: Global, held: &[Held], name: &str, most: usize) -> Result<Vec<u8>, LoadRefusal>
     requires { most < 2 ^ 31 }
     ensures bytes { IfOk result (λ v. IfSome (last_under held.now name.now) (λ c. v.items ≡ take (most + 1) c)) }
+    ensures long { IfOk result (λ v. length v.items ≤ most + 1) }
     ensures ok { OnOk result (is_some (last_under held.now name.now) ≡ true) }
     ensures failed { result ≡ Err LoadRefusal.Failed → last_under held.now name.now ≡ None }
 {
@@ -134,6 +135,7 @@ impl Files for MemFiles {
     fn load(&mut self, alloc: Global, name: &str, most: usize) -> Result<Vec<u8>, LoadRefusal>
         requires { most < 2 ^ 31 }
         ensures bytes { IfOk result (λ v. IfSome (last_under self.old.held name.now) (λ c. v.items ≡ take (most + 1) c)) }
+        ensures long { IfOk result (λ v. length v.items ≤ most + 1) }
         ensures same { (n : List ℕ) → last_under self.new.held n ≡ last_under self.old.held n }
         ensures others { (n : List ℕ) → n ≢ name.now → times n self.new.failed ≡ times n self.old.failed }
         ensures later { times name.now self.old.failed ≤ times name.now self.new.failed }

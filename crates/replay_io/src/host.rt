@@ -1,0 +1,188 @@
+ghost use Rattle.std.specs.Prelude.{◌≡◌, ◌≢◌, ◌<◌, ◌≤◌, ◌^◌, ◌+◌, ◌-◌, List, [], ℕ, Err, None, length, take, min, is_ok, if◌then◌else◌, IfOk, OnOk, OnErr};
+ghost use Rattle.replay_io.specs.Loading.{is_failed};
+ghost use Rattle.replay_io.specs.Names.{times, failures_after};
+ghost use Rattle.replay_io.specs.Streams.{AppendsFront};
+ghost use Rattle.replay_io.specs.Writing.{Rose, Writes};
+ghost use Rattle.std.specs.Io.KnownBytes.{Appends, Keeps};
+
+use crate::failures::Failures;
+use crate::files::{Files, LoadRefusal};
+use crate::sinks::{Sink, SinkFailed};
+use std::alloc::Global;
+use std::io::{ErrorKind, Read, Write};
+use std::marker::Model;
+use std::{fs, rt};
+
+/// Real files. Clauses see the names whose load failed, in order.
+#[derive(Drop)]
+pub struct HostFiles<R: rt::Files + Drop> {
+    rt: R,
+    failures: Failures,
+}
+
+impl<R: rt::Files + Drop> Model for HostFiles<R> {
+    ghost use Rattle.std.specs.Prelude.{List, ℕ};
+
+    ghost Value = { List (List ℕ) };
+
+    ghost view = { λ f. f.failures };
+}
+
+impl<R: rt::Files + Drop> HostFiles<R> {
+    /// The files of a runtime. No load has failed yet.
+    pub fn new(alloc: Global, rt: R) -> Self
+        ensures { result ≡ [] }
+    {
+        HostFiles {
+            rt,
+            failures: Failures::new(alloc),
+        }
+    }
+}
+
+/// One read, made again where a signal interrupts it.
+fn read_some<F: Read>(file: &mut F, piece: &mut [u8]) -> Result<usize, LoadRefusal>
+    ensures { IfOk result (λ count. count ≤ length piece.old) }
+{
+    for _ in 0..u64::MAX {
+        match file.read(piece) {
+            Ok(count) => return Ok(count),
+            Err(error) if error.kind() == ErrorKind::Interrupted => {}
+            Err(_) => return Err(LoadRefusal::Failed),
+        }
+    }
+    Err(LoadRefusal::Failed)
+}
+
+/// The first `most + 1` bytes of a real file, or all where it is shorter.
+fn read_file<R: rt::Files>(
+    rt: &R,
+    alloc: Global,
+    name: &str,
+    most: usize,
+) -> Result<Vec<u8>, LoadRefusal>
+    requires { most < 2 ^ 31 }
+    ensures { IfOk result (λ v. length v.items ≤ most + 1) }
+{
+    let Ok(mut file) = fs::open(rt, name) else {
+        return Err(LoadRefusal::Failed);
+    };
+    let mut bytes = Vec::new(alloc);
+    let mut piece = [0u8; 4096];
+    while bytes.len() <= most {
+        let count = read_some(&mut file, &mut piece)?;
+        if count == 0 {
+            break;
+        }
+        if bytes.extend_from_slice(&piece[..count]).is_err() {
+            return Err(LoadRefusal::NoMemory);
+        }
+    }
+    bytes.truncate(most + 1);
+    Ok(bytes)
+}
+
+impl<R: rt::Files + Drop> Files for HostFiles<R> {
+    ghost content = { λ _ _. None };
+
+    ghost faults = { λ f n. times n f };
+
+    #[tactic(auto, using(crate::proofs::NamesLemmas::counts))]
+    fn load(&mut self, alloc: Global, name: &str, most: usize) -> Result<Vec<u8>, LoadRefusal>
+        requires { most < 2 ^ 31 }
+        ensures long { IfOk result (λ v. length v.items ≤ most + 1) }
+        ensures others { (n : List ℕ) → n ≢ name.now → times n self.new ≡ times n self.old }
+        ensures later { times name.now self.old ≤ times name.now self.new }
+        ensures failed { result ≡ Err LoadRefusal.Failed → Rose (times name.now self.old) (times name.now self.new) }
+        ensures kept { (result ≢ Err LoadRefusal.Failed) → times name.now self.new ≡ times name.now self.old }
+        // Beside what each load ensures: the names that this one leaves.
+        ensures after { self.new ≡ failures_after self.old name.now (is_failed result) }
+    {
+        if self.failures.push(alloc, name).is_err() {
+            return Err(LoadRefusal::NoMemory);
+        }
+        let answer = read_file(&self.rt, alloc, name, most);
+        self.failures.settle(&answer);
+        answer
+    }
+}
+
+/// A real stream. Clauses see how often a put has failed, and what the writer tells that it holds:
+/// standard output and standard error tell nothing.
+#[derive(Drop)]
+pub struct HostOut<W: Write + Drop> {
+    writer: W,
+    faults: u64,
+}
+
+impl<W: Write + Drop> Model for HostOut<W> {
+    ghost use Rattle.replay_io.specs.Streams.{Stream};
+
+    ghost Value = { Stream };
+
+    ghost view = { λ s. record { held = W.contents s.writer; faults = s.faults } };
+}
+
+impl<W: Write + Drop> HostOut<W> {
+    /// The stream of a writer. No put has failed yet.
+    pub fn new(writer: W) -> Self
+        ensures { result ≡ record { held = W.contents writer; faults = 0 } }
+    {
+        HostOut { writer, faults: 0 }
+    }
+}
+
+/// One write, made again where a signal interrupts it. It fails where it takes nothing.
+fn write_some<W: Write>(writer: &mut W, piece: &[u8]) -> Result<usize, SinkFailed>
+    ensures some { IfOk result (λ count. 0 < count) }
+    ensures fits { IfOk result (λ count. count ≤ length piece.now) }
+    ensures ok { IfOk result (λ count. Appends (W.contents writer.old) (W.contents writer.new) (take count piece.now)) }
+    ensures err { OnErr result (Keeps (W.contents writer.old) (W.contents writer.new)) }
+{
+    for _ in 0..u64::MAX {
+        match writer.write(piece) {
+            Ok(0) => return Err(SinkFailed),
+            Ok(count) => return Ok(count),
+            Err(error) if error.kind() == ErrorKind::Interrupted => {}
+            Err(_) => return Err(SinkFailed),
+        }
+    }
+    Err(SinkFailed)
+}
+
+/// Writes a whole piece, and has it leave the writer where that keeps bytes back.
+/// The first failure ends it.
+fn write_whole<W: Write>(writer: &mut W, piece: &[u8]) -> Result<(), SinkFailed>
+    ensures ok { OnOk result (Appends (W.contents writer.old) (W.contents writer.new) piece.now) }
+    ensures err { OnErr result (AppendsFront (W.contents writer.old) (W.contents writer.new) piece.now) }
+{
+    let mut rest = piece;
+    while !rest.is_empty() {
+        let count = write_some(writer, rest)?;
+        rest = &rest[count..];
+    }
+    if writer.flush().is_err() {
+        return Err(SinkFailed);
+    }
+    Ok(())
+}
+
+impl<W: Write + Drop> Sink for HostOut<W> {
+    ghost written = { λ _. None };
+
+    ghost faults = { λ s. s.faults };
+
+    fn put(&mut self, piece: &[u8]) -> Result<(), SinkFailed>
+        ensures writes { Writes result None None self.old.faults self.new.faults piece.now }
+        // Beside what each put ensures: how the count rises, and what the writer took, if it tells.
+        ensures count { self.new.faults ≡ (if is_ok result then self.old.faults else min (self.old.faults + 1) (2 ^ 64 - 1)) }
+        ensures ok { OnOk result (Appends self.old.held self.new.held piece.now) }
+        ensures err { OnErr result (AppendsFront self.old.held self.new.held piece.now) }
+    {
+        if write_whole(&mut self.writer, piece).is_err() {
+            self.faults = self.faults.saturating_add(1);
+            return Err(SinkFailed);
+        }
+        Ok(())
+    }
+}
