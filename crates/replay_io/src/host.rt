@@ -1,9 +1,9 @@
-ghost use Rattle.std.specs.Prelude.{◌≡◌, ◌≢◌, ◌<◌, ◌≤◌, ◌^◌, ◌+◌, ◌-◌, List, [], ℕ, Err, None, length, take, min, is_ok, if◌then◌else◌, IfOk, OnOk, OnErr};
+ghost use Rattle.std.specs.Prelude.{◌≡◌, ◌≢◌, ◌<◌, ◌≤◌, ◌^◌, ◌+◌, ◌-◌, List, [], ℕ, Err, None, length, take, min, is_ok, if◌then◌else◌, IfOk, OnOk, OnErr, IfSome};
 ghost use Rattle.replay_io.specs.Loading.{is_failed};
 ghost use Rattle.replay_io.specs.Names.{times, failures_after};
 ghost use Rattle.replay_io.specs.Streams.{AppendsFront};
 ghost use Rattle.replay_io.specs.Writing.{Rose, Writes};
-ghost use Rattle.std.specs.Io.KnownBytes.{Appends, Keeps};
+ghost use Rattle.std.specs.Io.KnownBytes.{Appends, Consumes, IsAtEnd, Keeps};
 
 use crate::failures::Failures;
 use crate::files::{Files, LoadRefusal};
@@ -42,7 +42,9 @@ impl<R: rt::Files + Drop> HostFiles<R> {
 
 /// One read, made again where a signal interrupts it.
 fn read_some<F: Read>(file: &mut F, piece: &mut [u8]) -> Result<usize, LoadRefusal>
-    ensures { IfOk result (λ count. count ≤ length piece.old) }
+    ensures fits { IfOk result (λ count. count ≤ length piece.old) }
+    ensures ok { IfOk result (λ count. Consumes (F.remaining file.old) (F.remaining file.new) (take count piece.new)) }
+    ensures end { IfOk result (λ count. count ≡ 0 → 0 < length piece.old → IsAtEnd (F.remaining file.new)) }
 {
     for _ in 0..u64::MAX {
         match file.read(piece) {
@@ -52,6 +54,27 @@ fn read_some<F: Read>(file: &mut F, piece: &mut [u8]) -> Result<usize, LoadRefus
         }
     }
     Err(LoadRefusal::Failed)
+}
+
+/// The first `most + 1` bytes that a reader gives, or all where it gives fewer.
+fn read_front<F: Read>(alloc: Global, file: &mut F, most: usize) -> Result<Vec<u8>, LoadRefusal>
+    requires { most < 2 ^ 31 }
+    ensures long { IfOk result (λ v. length v.items ≤ most + 1) }
+    ensures bytes { IfOk result (λ v. IfSome (F.remaining file.old) (λ all. v.items ≡ take (most + 1) all)) }
+{
+    let mut bytes = Vec::new(alloc);
+    let mut piece = [0u8; 4096];
+    while bytes.len() <= most {
+        let count = read_some(file, &mut piece)?;
+        if count == 0 {
+            return Ok(bytes);
+        }
+        if bytes.extend_from_slice(&piece[..count]).is_err() {
+            return Err(LoadRefusal::NoMemory);
+        }
+    }
+    bytes.truncate(most + 1);
+    Ok(bytes)
 }
 
 /// The first `most + 1` bytes of a real file, or all where it is shorter.
@@ -67,19 +90,7 @@ fn read_file<R: rt::Files>(
     let Ok(mut file) = fs::open(rt, name) else {
         return Err(LoadRefusal::Failed);
     };
-    let mut bytes = Vec::new(alloc);
-    let mut piece = [0u8; 4096];
-    while bytes.len() <= most {
-        let count = read_some(&mut file, &mut piece)?;
-        if count == 0 {
-            break;
-        }
-        if bytes.extend_from_slice(&piece[..count]).is_err() {
-            return Err(LoadRefusal::NoMemory);
-        }
-    }
-    bytes.truncate(most + 1);
-    Ok(bytes)
+    read_front(alloc, &mut file, most)
 }
 
 impl<R: rt::Files + Drop> Files for HostFiles<R> {
