@@ -197,3 +197,118 @@ impl<W: Write + Drop> Sink for HostOut<W> {
         Ok(())
     }
 }
+
+#[cfg(test)]
+mod tests {
+    use super::*;
+    use std::io;
+    use std::test::Fail;
+
+    /// Takes or gives at most `step` bytes at a call, is interrupted at its first call, and fails
+    /// at the call and at the flush of these numbers.
+    #[derive(Drop)]
+    struct Pipe {
+        bytes: Vec<u8>,
+        step: usize,
+        calls: u32,
+        fails_at: u32,
+        flush_fails: bool,
+    }
+
+    impl Pipe {
+        fn next_call(&mut self) -> io::Result<()> {
+            self.calls = self.calls.saturating_add(1);
+            if self.calls == 1 {
+                return Err(io::Error::from(ErrorKind::Interrupted));
+            }
+            if self.calls == self.fails_at {
+                return Err(io::Error::from(ErrorKind::BrokenPipe));
+            }
+            Ok(())
+        }
+    }
+
+    impl Write for Pipe {
+        fn write(&mut self, piece: &[u8]) -> io::Result<usize> {
+            self.next_call()?;
+            let count = piece.len().min(self.step);
+            self.bytes.extend_from_slice(&piece[..count])?;
+            Ok(count)
+        }
+
+        fn flush(&mut self) -> io::Result<()> {
+            if self.flush_fails {
+                return Err(io::Error::from(ErrorKind::BrokenPipe));
+            }
+            Ok(())
+        }
+    }
+
+    impl Read for Pipe {
+        fn read(&mut self, piece: &mut [u8]) -> io::Result<usize> {
+            self.next_call()?;
+            let count = self.bytes.len().min(self.step).min(piece.len());
+            for (to, from) in piece.iter_mut().zip(self.bytes.drain(..count)) {
+                *to = from;
+            }
+            Ok(count)
+        }
+    }
+
+    #[test]
+    fn writes_whole_pieces(rt: HostRuntime) -> Result<(), Fail> {
+        let rows: [(usize, u32, bool, bool, &[u8]); 5] = [
+            (3, 0, false, true, b"abcd"),
+            (9, 0, false, true, b"abcd"),
+            (3, 3, false, false, b"abc"),
+            (0, 0, false, false, b""),
+            (3, 0, true, false, b"abcd"),
+        ];
+        for (row, (step, fails_at, flush_fails, answer, bytes)) in rows.iter().enumerate() {
+            let mut out = HostOut::new(Pipe {
+                bytes: Vec::new(rt.alloc()),
+                step: *step,
+                calls: 0,
+                fails_at: *fails_at,
+                flush_fails: *flush_fails,
+            });
+            assert_eq!(rt; out.put(b"abcd").is_ok(), *answer, "row {row}");
+            assert_eq!(rt; out.writer.bytes.as_slice(), *bytes, "row {row}");
+        }
+        assert_eq!(rt; HostOut::new(rt.stdout()).put(b""), Ok(()));
+        assert_eq!(rt; HostOut::new(rt.stderr()).put(b""), Ok(()));
+        Ok(())
+    }
+
+    #[test]
+    fn reads_fronts_of_files(rt: HostRuntime) -> Result<(), Fail> {
+        let alloc = rt.alloc();
+        let mut pipe = Pipe {
+            bytes: Vec::from_slice(alloc, b"abcdefg")?,
+            step: 2,
+            calls: 0,
+            fails_at: 5,
+            flush_fails: false,
+        };
+        assert_eq!(rt;
+            read_front(alloc, &mut pipe, 2)?.as_slice(),
+            b"abc".as_slice()
+        );
+        assert!(rt; matches!(read_front(alloc, &mut pipe, 9), Err(LoadRefusal::Failed)));
+        let mut files = HostFiles::new(alloc, rt.clone()?);
+        let rows: [(&str, Option<&[u8]>); 4] = [
+            ("/dev/null", Some(b"")),
+            ("/dev/zero", Some(&[0; 6])),
+            ("/", None),
+            ("/no/such/file", None),
+        ];
+        for (name, bytes) in rows {
+            let answer = files.load(alloc, name, 5);
+            match bytes {
+                Some(bytes) => assert_eq!(rt; answer?.as_slice(), bytes, "{name}"),
+                None => assert!(rt; matches!(answer, Err(LoadRefusal::Failed)), "{name}"),
+            }
+        }
+        Ok(())
+    }
+}

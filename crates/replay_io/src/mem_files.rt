@@ -159,3 +159,38 @@ impl Files for MemFiles {
         answer
     }
 }
+
+#[cfg(test)]
+mod tests {
+    use super::*;
+    use std::test::Fail;
+
+    #[test]
+    fn loads_in_turn(rt: HostRuntime) -> Result<(), Fail> {
+        let alloc = rt.alloc();
+        let mut files = MemFiles::new(alloc, &[2])?;
+        files.add("image", b"12345")?;
+        files.add("empty", b"")?;
+        let rows: [(&str, usize, Option<&[u8]>); 6] = [
+            ("image", 9, Some(b"12345")),
+            ("image", 9, None),
+            ("journal", 9, None),
+            ("image", 4, Some(b"12345")),
+            ("image", 2, Some(b"123")),
+            ("empty", 0, Some(b"")),
+        ];
+        for (row, (name, most, bytes)) in rows.iter().enumerate() {
+            let answer = files.load(alloc, name, *most);
+            match bytes {
+                Some(bytes) => assert_eq!(rt; answer?.as_slice(), *bytes, "row {row}"),
+                None => assert!(rt; matches!(answer, Err(LoadRefusal::Failed)), "row {row}"),
+            }
+        }
+        files.add("image", b"new")?;
+        assert_eq!(rt;
+            files.load(alloc, "image", 9)?.as_slice(),
+            b"new".as_slice()
+        );
+        Ok(())
+    }
+}

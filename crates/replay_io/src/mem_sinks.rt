@@ -183,3 +183,39 @@ impl Sink for SureSink {
         Ok(())
     }
 }
+
+#[cfg(test)]
+mod tests {
+    use super::*;
+    use std::test::Fail;
+
+    const PIECES: [&[u8]; 3] = [b"ab", b"cd", b"e"];
+
+    #[test]
+    fn keeps_fails_and_runs_out(rt: HostRuntime) -> Result<(), Fail> {
+        let alloc = rt.alloc();
+        let rows: [(u32, &[(u32, u32)], [bool; 3], &[u8]); 6] = [
+            (9, &[], [true, true, true], b"abcde"),
+            (9, &[(2, 0)], [true, false, true], b"abe"),
+            (9, &[(2, 1)], [true, false, true], b"abce"),
+            (9, &[(1, 7), (3, 0)], [false, true, false], b"abcd"),
+            (3, &[], [true, true, true], b"abc"),
+            (0, &[(3, 1)], [true, true, false], b""),
+        ];
+        for (row, (room, fails, answers, kept)) in rows.iter().enumerate() {
+            let mut sink = MemSink::new(alloc, *room, fails)?;
+            for (piece, answer) in PIECES.iter().zip(answers) {
+                assert_eq!(rt; sink.put(piece).is_ok(), *answer, "row {row}");
+            }
+            assert_eq!(rt; sink.bytes(), *kept, "row {row}");
+        }
+        for (room, kept) in [(5u32, b"abcde".as_slice()), (4, b"abcd")] {
+            let mut sink = SureSink::new(alloc, room)?;
+            for piece in PIECES {
+                assert_eq!(rt; sink.put(piece), Ok(()), "room {room}");
+            }
+            assert_eq!(rt; sink.bytes(), kept, "room {room}");
+        }
+        Ok(())
+    }
+}
