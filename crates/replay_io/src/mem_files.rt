@@ -5,7 +5,7 @@ ghost use Rattle.std.specs.List.{find};
 ghost use Rattle.replay_io.specs.Writing.{Rose};
 ghost use Rattle.replay_io.specs.Names.{times};
 ghost use Rattle.replay_io.specs.Loading.{is_failed};
-ghost use Rattle.replay_io.specs.Memory.{Shelf, last_under, is_loadable, shelf_after};
+ghost use Rattle.replay_io.specs.Shelf.{Shelf, last_under, is_loadable, shelf_after};
 
 use crate::failures::Failures;
 use crate::files::{Files, LoadRefusal};
@@ -44,7 +44,7 @@ impl Held {
 }
 
 /// What was added last under a name.
-#[tactic(auto, unfolding(crate::specs::Memory::last_under))]
+#[tactic(auto, unfolding(crate::specs::Shelf::last_under))]
 fn find_held<'a>(held: &'a [Held], name: &str) -> Option<&'a Held>
     ensures { option_map (λ h. h.now.1) result ≡ last_under held.now name.now }
 {
@@ -80,7 +80,7 @@ pub struct MemFiles {
 }
 
 impl Model for MemFiles {
-    ghost use Rattle.replay_io.specs.Memory.{Shelf};
+    ghost use Rattle.replay_io.specs.Shelf.{Shelf};
 
     ghost Value = { Shelf };
 
@@ -157,40 +157,5 @@ impl Files for MemFiles {
         };
         self.failures.settle(&answer);
         answer
-    }
-}
-
-#[cfg(test)]
-mod tests {
-    use super::*;
-    use std::test::Fail;
-
-    #[test]
-    fn loads_in_turn(rt: HostRuntime) -> Result<(), Fail> {
-        let alloc = rt.alloc();
-        let mut files = MemFiles::new(alloc, &[2])?;
-        files.add("image", b"12345")?;
-        files.add("empty", b"")?;
-        let rows: [(&str, usize, Option<&[u8]>); 6] = [
-            ("image", 9, Some(b"12345")),
-            ("image", 9, None),
-            ("journal", 9, None),
-            ("image", 4, Some(b"12345")),
-            ("image", 2, Some(b"123")),
-            ("empty", 0, Some(b"")),
-        ];
-        for (row, (name, most, bytes)) in rows.iter().enumerate() {
-            let answer = files.load(alloc, name, *most);
-            match bytes {
-                Some(bytes) => assert_eq!(rt; answer?.as_slice(), *bytes, "row {row}"),
-                None => assert!(rt; matches!(answer, Err(LoadRefusal::Failed)), "row {row}"),
-            }
-        }
-        files.add("image", b"new")?;
-        assert_eq!(rt;
-            files.load(alloc, "image", 9)?.as_slice(),
-            b"new".as_slice()
-        );
-        Ok(())
     }
 }

@@ -60,25 +60,3 @@ impl Words {
         self.words[i].as_str()
     }
 }
-
-#[cfg(test)]
-mod tests {
-    use super::*;
-    use std::test::Fail;
-
-    #[test]
-    fn keeps_words_in_order(rt: HostRuntime) -> Result<(), Fail> {
-        let mut words = Words::new(rt.alloc());
-        let given = ["image", "", "--mem", "été"];
-        for word in given {
-            words.push(word)?;
-        }
-        assert_eq!(rt; words.len(), given.len());
-        for (i, word) in given.iter().enumerate() {
-            if i < words.len() {
-                assert_eq!(rt; words.word(i), *word, "word {i}");
-            }
-        }
-        Ok(())
-    }
-}
