@@ -1,3 +1,4 @@
-pub mod MemoryLemmas
 pub mod NamesLemmas
+pub mod StoreLemmas
+pub mod StreamLemmas
 pub mod WritingLemmas

@@ -1,4 +1,4 @@
-ghost use Rattle.std.specs.Prelude.{◌≡◌, ◌≢◌, ◌<◌, ◌≤◌, ◌^◌, ◌+◌, List, ℕ, Option, Err, take, IfOk, IfSome};
+ghost use Rattle.std.specs.Prelude.{◌≡◌, ◌≢◌, ◌<◌, ◌≤◌, ◌^◌, ◌+◌, List, ℕ, Option, Err, length, take, IfOk, IfSome};
 ghost use Rattle.replay_io.specs.Writing.{Rose};
 
 use std::alloc::Global;
@@ -24,6 +24,7 @@ pub trait Files {
     fn load(&mut self, alloc: Global, name: &str, most: usize) -> Result<Vec<u8>, LoadRefusal>
         requires { most < 2 ^ 31 }
         ensures bytes { IfOk result (λ v. IfSome (content self.old name.now) (λ c. v.items ≡ take (most + 1) c)) }
+        ensures long { IfOk result (λ v. length v.items ≤ most + 1) }
         ensures same { (n : List ℕ) → content self.new n ≡ content self.old n }
         ensures others { (n : List ℕ) → n ≢ name.now → faults self.new n ≡ faults self.old n }
         ensures later { faults self.old name.now ≤ faults self.new name.now }

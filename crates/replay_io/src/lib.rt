@@ -3,13 +3,20 @@
 
 mod failures;
 mod files;
+mod host;
+mod kept;
 mod mem_files;
-mod mem_sinks;
+mod mem_sink;
 mod sinks;
+mod sure_sink;
+#[cfg(test)]
+mod tests;
 mod words;
 
 pub use files::{Files, LoadRefusal};
+pub use host::{HostFiles, HostOut};
 pub use mem_files::MemFiles;
-pub use mem_sinks::{MemSink, SureSink};
+pub use mem_sink::MemSink;
 pub use sinks::{Sink, SinkFailed};
+pub use sure_sink::SureSink;
 pub use words::Words;

@@ -1,11 +1,11 @@
-ghost use Rattle.std.specs.Prelude.{◌≡◌, ◌≢◌, ◌<◌, ◌≤◌, ◌^◌, ◌+◌, ◌++◌, List, [], ◌∷◌, ℕ, Option, Some, None, Err, take, map, IfOk, OnOk, OnErr, IfSome, IsTrue, IsSome, true, false, reverse, is_some};
+ghost use Rattle.std.specs.Prelude.{◌≡◌, ◌≢◌, ◌<◌, ◌≤◌, ◌^◌, ◌+◌, ◌++◌, List, [], ◌∷◌, ℕ, Option, Some, None, Err, take, map, IfOk, OnOk, OnErr, IfSome, IsTrue, IsSome, true, false, reverse, is_some, length};
 ghost use Rattle.std.specs.Option.{option_map};
 ghost use Rattle.std.specs.Str.{bytes_eq};
 ghost use Rattle.std.specs.List.{find};
 ghost use Rattle.replay_io.specs.Writing.{Rose};
 ghost use Rattle.replay_io.specs.Names.{times};
 ghost use Rattle.replay_io.specs.Loading.{is_failed};
-ghost use Rattle.replay_io.specs.Memory.{Shelf, last_under, is_loadable, shelf_after};
+ghost use Rattle.replay_io.specs.Shelf.{Shelf, last_under, is_loadable, shelf_after};
 
 use crate::failures::Failures;
 use crate::files::{Files, LoadRefusal};
@@ -44,7 +44,7 @@ impl Held {
 }
 
 /// What was added last under a name.
-#[tactic(auto, unfolding(crate::specs::Memory::last_under))]
+#[tactic(auto, unfolding(crate::specs::Shelf::last_under))]
 fn find_held<'a>(held: &'a [Held], name: &str) -> Option<&'a Held>
     ensures { option_map (λ h. h.now.1) result ≡ last_under held.now name.now }
 {
@@ -55,6 +55,7 @@ fn find_held<'a>(held: &'a [Held], name: &str) -> Option<&'a Held>
 fn read_held(alloc: Global, held: &[Held], name: &str, most: usize) -> Result<Vec<u8>, LoadRefusal>
     requires { most < 2 ^ 31 }
     ensures bytes { IfOk result (λ v. IfSome (last_under held.now name.now) (λ c. v.items ≡ take (most + 1) c)) }
+    ensures long { IfOk result (λ v. length v.items ≤ most + 1) }
     ensures ok { OnOk result (is_some (last_under held.now name.now) ≡ true) }
     ensures failed { result ≡ Err LoadRefusal.Failed → last_under held.now name.now ≡ None }
 {
@@ -79,7 +80,7 @@ pub struct MemFiles {
 }
 
 impl Model for MemFiles {
-    ghost use Rattle.replay_io.specs.Memory.{Shelf};
+    ghost use Rattle.replay_io.specs.Shelf.{Shelf};
 
     ghost Value = { Shelf };
 
@@ -134,6 +135,7 @@ impl Files for MemFiles {
     fn load(&mut self, alloc: Global, name: &str, most: usize) -> Result<Vec<u8>, LoadRefusal>
         requires { most < 2 ^ 31 }
         ensures bytes { IfOk result (λ v. IfSome (last_under self.old.held name.now) (λ c. v.items ≡ take (most + 1) c)) }
+        ensures long { IfOk result (λ v. length v.items ≤ most + 1) }
         ensures same { (n : List ℕ) → last_under self.new.held n ≡ last_under self.old.held n }
         ensures others { (n : List ℕ) → n ≢ name.now → times n self.new.failed ≡ times n self.old.failed }
         ensures later { times name.now self.old.failed ≤ times name.now self.new.failed }

@@ -1,7 +1,7 @@
 use Rattle.std.proofs.Common.{◌≡◌, ◌<◌, ◌^◌, ◌∙◌, ap, take, arith, min, ◌+◌, ◌-◌}
-use Rattle.replay_io.specs.Memory.{store_after}
-use Rattle.replay_io.proofs.MemoryLemmas.{whole_kept, front_kept}
-use Rattle.replay_io.proofs.mem_sinks.MemSinkSink.put.Goals as goal
+use Rattle.replay_io.specs.Store.{store_after}
+use Rattle.replay_io.proofs.StoreLemmas.{whole_kept, front_kept}
+use Rattle.replay_io.proofs.mem_sink.MemSinkSink.put.Goals as goal
 
 pub returns-in-None-clause-writes : goal.returns-in-None-clause-writes
 returns-in-None-clause-writes c =

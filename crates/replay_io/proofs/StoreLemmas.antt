@@ -2,7 +2,7 @@
 use Rattle.std.proofs.Common.{◌≡◌, ◌∙◌, ℕ, List, ◌++◌, ◌+◌, ◌-◌, ◌^◌, ◌<◌, ◌≤◌, ◌==◌, Bool, true, false, cond, length, take, drop, min, refl, sym, ap, subst, Some, None, Option, arith}
 use Rattle.std.proofs.lemmas.Bool.Decides.{nat_tests}
 use Rattle.std.proofs.lemmas.List.{take_all, take-append-drop}
-use Rattle.replay_io.specs.Memory.{Store, told, store_after}
+use Rattle.replay_io.specs.Store.{Store, told, store_after}
 use Rattle.replay_io.specs.Writing.{Appended, AppendedFront, WritesWhole, WritesFront, Rose}
 
 told_by : (s : Store) (bytes : List ℕ) (b : Bool) → (s.lost == 0) ≡ b → cond b (Some s.bytes) None ≡ Some bytes → (s.lost ≡ 0) × (bytes ≡ s.bytes)

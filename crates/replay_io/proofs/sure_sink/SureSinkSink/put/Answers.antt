@@ -1,7 +1,7 @@
 use Rattle.std.proofs.Common.{ap, ◌∙◌, refl}
-use Rattle.replay_io.specs.Memory.{store_after}
-use Rattle.replay_io.proofs.MemoryLemmas.{whole_kept}
-use Rattle.replay_io.proofs.mem_sinks.SureSinkSink.put.Goals as goal
+use Rattle.replay_io.specs.Store.{store_after}
+use Rattle.replay_io.proofs.StoreLemmas.{whole_kept}
+use Rattle.replay_io.proofs.sure_sink.SureSinkSink.put.Goals as goal
 
 pub returns-clause-writes : goal.returns-clause-writes
 returns-clause-writes c =
