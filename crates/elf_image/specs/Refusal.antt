@@ -1,5 +1,5 @@
 -- The first refusal of a file as an image (this project's own list, over the fields of System V ABI's ELF32).
-use Rattle.std.specs.Prelude.{ℕ, ◌+◌, ◌*◌, ◌%◌, ◌==◌, ◌&&◌, ◌||◌, not, Bool, true, false, List, [], ◌∷◌, length, Option, Some, None, nat_eq, nat_lt, position, option_map, bit_and}
+use Rattle.std.specs.Prelude.{ℕ, ◌+◌, ◌*◌, ◌%◌, ◌==◌, ◌&&◌, ◌||◌, ◌≡◌, not, Bool, true, false, List, [], ◌∷◌, length, Option, Some, None, nat_eq, nat_lt, position, slice_get, option_map, bit_and}
 use Rattle.std.specs.List.{starts_with}
 use Rattle.rv_exec.specs.Window.{is_inside}
 use Rattle.elf_image.specs.declared.layout.Segment.{Segment}
@@ -65,6 +65,10 @@ is_above_memory s = is_loaded s && nat_lt s.memsz s.filesz
 -- a byte of the segment is outside the window of this size
 abbrev pub is_outside_window : ℕ → Segment → Bool
 is_outside_window size s = is_loaded s && (not (s.memsz == 0) && not (is_inside size s.vaddr s.memsz))
+
+-- no segment has the condition
+abbrev pub NonePass : (Segment → Bool) → List Segment → Type 0
+NonePass condition segments = (i : ℕ) (s : Segment) → slice_get segments i ≡ Some s → condition s ≡ false
 
 -- each segment can be copied; the file has len bytes, the window size
 unfoldable pub segment_refusal : ℕ → ℕ → List Segment → Option ImageRefusal
