@@ -1,7 +1,7 @@
 ghost use Rattle.std.specs.Prelude.{◌≡◌, ◌<◌, ◌≤◌, ◌+◌, ◌*◌, ◌%◌, ℕ, length, OnOk, IfOk, IfNone, IfSome, IsTrue, Some, position, slice_get, false};
 ghost use Rattle.std.specs.Result.{result_err};
 ghost use Rattle.rv_exec.specs.Window.{is_inside};
-ghost use Rattle.elf_image.specs.Layout.{e_entry, e_phoff, e_phnum, segments_of};
+ghost use Rattle.elf_image.specs.Layout.{e_entry, e_phnum, table_end, segments_of};
 ghost use Rattle.elf_image.specs.Refusal.{identity_refusal, machine_refusal, table_refusal, segment_refusal, entry_refusal, first_refusal, is_dynamic, is_out_of_file, is_above_memory, is_outside_window, NonePass};
 ghost use Rattle.elf_image.specs.Copying.{ArePlaceable};
 ghost use Rattle.elf_image.specs.declared.layout.Segment.{Segment};
@@ -91,7 +91,7 @@ fn check_table(bytes: &[u8]) -> Result<(), ImageRefusal>
     requires { 52 ≤ length bytes.now }
     ensures refusal { result_err result ≡ table_refusal bytes.now }
     ensures few { OnOk result (e_phnum bytes.now ≤ 64) }
-    ensures inside { OnOk result (0 < e_phnum bytes.now → e_phoff bytes.now + 32 * e_phnum bytes.now ≤ length bytes.now) }
+    ensures inside { OnOk result (0 < e_phnum bytes.now → table_end bytes.now ≤ length bytes.now) }
 {
     let count = half_at(bytes, E_PHNUM) as usize;
     if count == 0 {

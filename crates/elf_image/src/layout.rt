@@ -1,5 +1,5 @@
 ghost use Rattle.std.specs.Prelude.{◌≡◌, ◌<◌, ◌≤◌, ◌+◌, ◌*◌, ℕ, length};
-ghost use Rattle.elf_image.specs.Layout.{half_at, word_at, e_phoff, e_phnum, segment_at, segments_of, is_loaded};
+ghost use Rattle.elf_image.specs.Layout.{half_at, word_at, e_phnum, table_end, segment_at, segments_of, is_loaded};
 ghost use Rattle.elf_image.specs.Refusal.{is_dynamic, is_out_of_file, is_above_memory, is_outside_window};
 
 use arrayvec::ArrayVec;
@@ -162,7 +162,7 @@ pub fn read_segments(bytes: &[u8]) -> ArrayVec<Segment, MAX_SEGMENTS>
     requires long { 52 ≤ length bytes.now }
     requires short { length bytes.now ≤ 16777216 }
     requires few { e_phnum bytes.now ≤ 64 }
-    requires inside { 0 < e_phnum bytes.now → e_phoff bytes.now + 32 * e_phnum bytes.now ≤ length bytes.now }
+    requires inside { 0 < e_phnum bytes.now → table_end bytes.now ≤ length bytes.now }
     ensures { result.items ≡ segments_of bytes.now }
 {
     let count = half_at(bytes, E_PHNUM) as usize;

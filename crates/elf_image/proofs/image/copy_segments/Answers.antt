@@ -1,4 +1,4 @@
-use Rattle.std.proofs.Common.{◌≡◌, ◌<◌, length, sym, ap, ◌∙◌, subst, arith, get_or}
+use Rattle.std.proofs.Common.{length, sym, subst, arith, get_or}
 use Rattle.std.proofs.lemmas.Option.{slice_get-get_or}
 use Rattle.elf_image.specs.declared.layout.Segment.{Segment}
 use Rattle.elf_image.specs.Copying.{IsPlaceable}
@@ -26,4 +26,5 @@ pub loop-s-preserved : goal.loop-s-preserved
 unfolding blank
 loop-s-preserved c =
     IsStart-more c.args.bytes.now c.loop-s.mem c.copy_segment.new.mem c.args.segments.now c.loop-s.s-index
-    (length c.args.mem.now) blank (omega arith) c.loop-s.invariant c.copy_segment.ensures.len c.copy_segment.ensures.each
+    (length c.args.mem.now) blank (omega arith) c.loop-s.invariant
+    c.copy_segment.ensures.len c.copy_segment.ensures.each
