@@ -17,4 +17,5 @@ pub segments_from-more : (bytes : List ℕ) (table count i : ℕ) (read more all
 segments_from-more bytes table count i read more all s below here appended so_far =
     let at : table + 32 * (i + 1) ≡ (table + 32 * i) + 32 = omega arith in
     let left : count - (i + 1) ≡ (count - i) - 1 = omega arith in
-    rw (appended, here, at, left, append_assoc, ← segments_from-step bytes (table + 32 * i) (count - i) (omega arith)) so_far
+    let step = segments_from-step bytes (table + 32 * i) (count - i) (omega arith) in
+    rw (appended, here, at, left, append_assoc, ← step) so_far

@@ -1,10 +1,10 @@
 -- How the copy of one segment changes the window, byte by byte.
-use Rattle.std.specs.Prelude.{ℕ, ◌+◌, ◌-◌, ◌&&◌, ◌≡◌, ◌<◌, ◌≤◌, List, slice_index, slice_get, nat_le, nat_lt, Option, Some, if◌then◌else◌}
+use Rattle.std.specs.Prelude.{ℕ, ◌+◌, ◌-◌, ◌&&◌, ◌≡◌, ◌<◌, ◌≤◌, List, slice_index, slice_get, nat_le, nat_lt, Some, if◌then◌else◌}
 use Rattle.rv_exec.specs.Window.{base}
 use Rattle.elf_image.specs.declared.layout.Segment.{Segment}
 use Rattle.elf_image.specs.Layout.{covers, byte_in}
 
--- the file of len bytes has what the segment takes from it, and the window of this size has room for the segment
+-- the file of len bytes has what the segment takes from it, and the window of this size has room for it
 pub record IsPlaceable (len size : ℕ) (s : Segment) : Type 0 where
   pub larger : s.filesz ≤ s.memsz
   pub in_file : 0 < s.filesz → s.offset + s.filesz ≤ len
@@ -25,7 +25,9 @@ with_part bytes s old k =
 -- the byte at place k of the window, once the rest of the segment is cleared
 abbrev pub with_rest : Segment → List ℕ → ℕ → ℕ
 with_rest s old k =
-    if nat_le (s.vaddr + s.filesz) (base + k) && nat_lt (base + k) (s.vaddr + s.memsz) then 0 else slice_index old k
+    if nat_le (s.vaddr + s.filesz) (base + k) && nat_lt (base + k) (s.vaddr + s.memsz)
+    then 0
+    else slice_index old k
 
 -- the byte at place k of the window, once the segment is copied
 abbrev pub with_segment : List ℕ → Segment → List ℕ → ℕ → ℕ

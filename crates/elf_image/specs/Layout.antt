@@ -1,5 +1,5 @@
 -- The layout of a 32-bit little-endian ELF file (System V ABI), and the memory that its segments make.
-use Rattle.std.specs.Prelude.{ℕ, zero, suc, ◌+◌, ◌-◌, ◌==◌, ◌&&◌, ◌≡◌, ◌<◌, List, [], ◌∷◌, drop, length, reverse, find, slice_index, nat_le, nat_lt, Bool, Option, Some, None, if◌then◌else◌}
+use Rattle.std.specs.Prelude.{ℕ, zero, suc, ◌+◌, ◌-◌, ◌*◌, ◌==◌, ◌&&◌, ◌≡◌, ◌<◌, List, [], ◌∷◌, drop, length, reverse, find, slice_index, nat_le, nat_lt, Bool, Option, Some, None, if◌then◌else◌}
 use Rattle.byteorder.specs.Endian.{little_number}
 use Rattle.rv_exec.specs.Window.{base}
 use Rattle.elf_image.specs.declared.layout.Segment.{Segment}
@@ -47,6 +47,10 @@ e_phentsize bytes = half_at bytes 42
 abbrev pub e_phnum : List ℕ → ℕ
 e_phnum bytes = half_at bytes 44
 
+-- the offset behind the last program header, each of which has 32 bytes
+abbrev pub table_end : List ℕ → ℕ
+table_end bytes = e_phoff bytes + 32 * e_phnum bytes
+
 -- the segment whose program header stands at an offset of the file (ELF: Elf32_Phdr)
 unfoldable pub segment_at : List ℕ → ℕ → Segment
 segment_at bytes at = record {
@@ -76,7 +80,8 @@ covers addr s = is_loaded s && (nat_le s.vaddr addr && nat_lt addr (s.vaddr + s.
 
 -- the byte of the segment at an address that it covers: the file's within filesz, and 0 beyond
 abbrev pub byte_in : List ℕ → ℕ → Segment → ℕ
-byte_in bytes addr s = if nat_lt (addr - s.vaddr) s.filesz then slice_index bytes (s.offset + (addr - s.vaddr)) else 0
+byte_in bytes addr s =
+    if nat_lt (addr - s.vaddr) s.filesz then slice_index bytes (s.offset + (addr - s.vaddr)) else 0
 
 -- the byte at an address that this segment covers, or that none does
 abbrev pub byte_of : List ℕ → ℕ → Option Segment → ℕ

@@ -1,11 +1,11 @@
 -- The first refusal of a file as an image (this project's own list, over the fields of System V ABI's ELF32).
-use Rattle.std.specs.Prelude.{ℕ, ◌+◌, ◌*◌, ◌%◌, ◌==◌, ◌&&◌, ◌||◌, not, Bool, true, false, List, [], ◌∷◌, length, Option, Some, None, nat_eq, nat_lt, position, option_map, bit_and}
+use Rattle.std.specs.Prelude.{ℕ, ◌+◌, ◌%◌, ◌==◌, ◌&&◌, ◌||◌, ◌≡◌, not, Bool, true, false, List, [], ◌∷◌, length, Option, Some, None, nat_eq, nat_lt, position, slice_get, option_map, bit_and}
 use Rattle.std.specs.List.{starts_with}
 use Rattle.rv_exec.specs.Window.{is_inside}
 use Rattle.elf_image.specs.declared.layout.Segment.{Segment}
 use Rattle.elf_image.specs.declared.refusal.ImageRefusal.{ImageRefusal}
 use Rattle.elf_image.specs.declared.refusal.ImageRefusal.TheVariants.{TooLong, Short, Magic, Class, Order, Version, FileType, Machine, Flags, HeaderSize, SegmentCount, TableOutOfFile, Dynamic, SegmentOutOfFile, SizeAboveMemory, OutsideWindow, Entry}
-use Rattle.elf_image.specs.Layout.{ei_class, ei_data, ei_version, e_type, e_machine, e_version, e_entry, e_phoff, e_flags, e_phentsize, e_phnum, segments_of, is_loaded}
+use Rattle.elf_image.specs.Layout.{ei_class, ei_data, ei_version, e_type, e_machine, e_version, e_entry, e_flags, e_phentsize, e_phnum, table_end, segments_of, is_loaded}
 
 -- a refusal, where its condition holds
 abbrev pub when : Bool → ImageRefusal → Option ImageRefusal
@@ -43,12 +43,16 @@ machine_refusal bytes =
     orelse when (not (e_machine bytes == 243)) Machine
     orelse when (not (bit_and (e_flags bytes) 15 == 0)) Flags
 
+-- it has program headers
+abbrev pub has_headers : List ℕ → Bool
+has_headers bytes = not (e_phnum bytes == 0)
+
 -- it has the program headers that it names
 unfoldable pub table_refusal : List ℕ → Option ImageRefusal
 table_refusal bytes =
-    when (not (e_phnum bytes == 0) && not (e_phentsize bytes == 32)) HeaderSize
+    when (has_headers bytes && not (e_phentsize bytes == 32)) HeaderSize
     orelse when (nat_lt 64 (e_phnum bytes)) SegmentCount
-    orelse when (not (e_phnum bytes == 0) && nat_lt (length bytes) (e_phoff bytes + 32 * e_phnum bytes)) TableOutOfFile
+    orelse when (has_headers bytes && nat_lt (length bytes) (table_end bytes)) TableOutOfFile
 
 -- the segment needs a dynamic linker (ELF: PT_DYNAMIC, PT_INTERP)
 abbrev pub is_dynamic : Segment → Bool
@@ -65,6 +69,10 @@ is_above_memory s = is_loaded s && nat_lt s.memsz s.filesz
 -- a byte of the segment is outside the window of this size
 abbrev pub is_outside_window : ℕ → Segment → Bool
 is_outside_window size s = is_loaded s && (not (s.memsz == 0) && not (is_inside size s.vaddr s.memsz))
+
+-- no segment has the condition
+abbrev pub NonePass : (Segment → Bool) → List Segment → Type 0
+NonePass condition segments = (i : ℕ) (s : Segment) → slice_get segments i ≡ Some s → condition s ≡ false
 
 -- each segment can be copied; the file has len bytes, the window size
 unfoldable pub segment_refusal : ℕ → ℕ → List Segment → Option ImageRefusal

@@ -1,8 +1,8 @@
 ghost use Rattle.std.specs.Prelude.{◌≡◌, ◌<◌, ◌≤◌, ◌+◌, ◌*◌, ◌%◌, ℕ, length, OnOk, IfOk, IfNone, IfSome, IsTrue, Some, position, slice_get, false};
 ghost use Rattle.std.specs.Result.{result_err};
 ghost use Rattle.rv_exec.specs.Window.{is_inside};
-ghost use Rattle.elf_image.specs.Layout.{e_entry, e_phoff, e_phnum, segments_of};
-ghost use Rattle.elf_image.specs.Refusal.{identity_refusal, machine_refusal, table_refusal, segment_refusal, entry_refusal, first_refusal, is_dynamic, is_out_of_file, is_above_memory, is_outside_window};
+ghost use Rattle.elf_image.specs.Layout.{e_entry, e_phnum, table_end, segments_of};
+ghost use Rattle.elf_image.specs.Refusal.{identity_refusal, machine_refusal, table_refusal, segment_refusal, entry_refusal, first_refusal, is_dynamic, is_out_of_file, is_above_memory, is_outside_window, NonePass};
 ghost use Rattle.elf_image.specs.Copying.{ArePlaceable};
 ghost use Rattle.elf_image.specs.declared.layout.Segment.{Segment};
 
@@ -18,14 +18,22 @@ use rv_exec::Memory;
 /// The most bytes that an image has.
 const MAX_FILE_SIZE: usize = 16_777_216;
 
-// What the fields of the file's header have to be (ELF).
+/// The class of a file of 32 bits.
 const ELFCLASS32: u8 = 1;
+
+/// The order in which the lowest byte of a number is first.
 const ELFDATA2LSB: u8 = 1;
+
+/// The version of ELF.
 const EV_CURRENT: u8 = 1;
+
+/// The type of an executable file.
 const ET_EXEC: u16 = 2;
+
+/// The machine RISC-V.
 const EM_RISCV: u16 = 243;
 
-/// The bits of `e_flags` for compressed code, floats and the short set of registers (RISC-V ELF).
+/// The flags of RISC-V for compressed code (bit 0), floats in registers (1, 2) and half the registers (3).
 const REFUSED_FLAGS: u32 = 15;
 
 /// Whether it is a 32-bit little-endian ELF file of version 1, and not too long.
@@ -83,7 +91,7 @@ fn check_table(bytes: &[u8]) -> Result<(), ImageRefusal>
     requires { 52 ≤ length bytes.now }
     ensures refusal { result_err result ≡ table_refusal bytes.now }
     ensures few { OnOk result (e_phnum bytes.now ≤ 64) }
-    ensures inside { OnOk result (0 < e_phnum bytes.now → e_phoff bytes.now + 32 * e_phnum bytes.now ≤ length bytes.now) }
+    ensures inside { OnOk result (0 < e_phnum bytes.now → table_end bytes.now ≤ length bytes.now) }
 {
     let count = half_at(bytes, E_PHNUM) as usize;
     if count == 0 {
@@ -115,7 +123,7 @@ fn find_dynamic(segments: &[Segment]) -> Option<usize>
 fn find_out_of_file(len: usize, segments: &[Segment]) -> Option<usize>
     requires { length segments.now ≤ 64 }
     ensures place { result ≡ position (is_out_of_file len) segments.now }
-    ensures others { IfNone result ((i : ℕ) (s : Segment) → slice_get segments.now i ≡ Some s → is_out_of_file len s ≡ false) }
+    ensures others { IfNone result (NonePass (is_out_of_file len) segments.now) }
     ensures few { IfSome result (λ i. i < 64) }
 {
     segments.iter().position(|s| s.is_out_of_file(len))
@@ -125,7 +133,7 @@ fn find_out_of_file(len: usize, segments: &[Segment]) -> Option<usize>
 fn find_above_memory(segments: &[Segment]) -> Option<usize>
     requires { length segments.now ≤ 64 }
     ensures place { result ≡ position is_above_memory segments.now }
-    ensures others { IfNone result ((i : ℕ) (s : Segment) → slice_get segments.now i ≡ Some s → is_above_memory s ≡ false) }
+    ensures others { IfNone result (NonePass is_above_memory segments.now) }
     ensures few { IfSome result (λ i. i < 64) }
 {
     segments.iter().position(|s| s.is_above_memory())
@@ -135,7 +143,7 @@ fn find_above_memory(segments: &[Segment]) -> Option<usize>
 fn find_outside_window(mem: &Memory, segments: &[Segment]) -> Option<usize>
     requires { length segments.now ≤ 64 }
     ensures place { result ≡ position (is_outside_window (length mem.now)) segments.now }
-    ensures others { IfNone result ((i : ℕ) (s : Segment) → slice_get segments.now i ≡ Some s → is_outside_window (length mem.now) s ≡ false) }
+    ensures others { IfNone result (NonePass (is_outside_window (length mem.now)) segments.now) }
     ensures few { IfSome result (λ i. i < 64) }
 {
     segments.iter().position(|s| s.is_outside_window(mem))

@@ -1,6 +1,6 @@
 ghost use Rattle.std.specs.Prelude.{◌≡◌, ◌<◌, ◌≤◌, ◌+◌, ◌%◌, ℕ, length, IfOk, IfErr, OnErr, OnOk, IsTrue, Some, None, slice_index};
 ghost use Rattle.rv_exec.specs.Window.{base, is_inside};
-ghost use Rattle.elf_image.specs.Layout.{IsStart, word_at, segments_of};
+ghost use Rattle.elf_image.specs.Layout.{IsStart, e_entry, segments_of};
 ghost use Rattle.elf_image.specs.Copying.{IsPlaceable, ArePlaceable, with_part, with_rest, with_segment};
 ghost use Rattle.elf_image.specs.Refusal.{first_refusal};
 
@@ -79,7 +79,7 @@ pub fn load(bytes: &[u8], mem: &mut Memory) -> Result<EntryPoint, ImageRefusal>
     ensures unchanged { OnErr result (mem.new ≡ mem.old) }
 
     // The entry is the file's e_entry, an aligned address with a whole instruction in the window.
-    ensures entry { IfOk result (λ e. e.0 ≡ word_at bytes.now 24) }
+    ensures entry { IfOk result (λ e. e.0 ≡ e_entry bytes.now) }
     ensures aligned { IfOk result (λ e. e.0 % 4 ≡ 0) }
     ensures inside { IfOk result (λ e. IsTrue (is_inside (length mem.old) e.0 4)) }
 

@@ -1,43 +1,75 @@
 ghost use Rattle.std.specs.Prelude.{◌≡◌, ◌<◌, ◌≤◌, ◌+◌, ◌*◌, ℕ, length};
-ghost use Rattle.elf_image.specs.Layout.{half_at, word_at, e_phoff, e_phnum, segment_at, segments_of, is_loaded};
+ghost use Rattle.elf_image.specs.Layout.{half_at, word_at, e_phnum, table_end, segment_at, segments_of, is_loaded};
 ghost use Rattle.elf_image.specs.Refusal.{is_dynamic, is_out_of_file, is_above_memory, is_outside_window};
 
 use arrayvec::ArrayVec;
 use byteorder::{ByteOrder, LittleEndian};
 use rv_exec::Memory;
 
-/// The size of the file's header.
+/// The size of the file's header (ELF: Elf32_Ehdr).
 pub const FILE_HEADER_SIZE: usize = 52;
 
-/// The size of one program header.
+/// The size of one program header (ELF: Elf32_Phdr).
 pub const PROGRAM_HEADER_SIZE: usize = 32;
 
 /// The most program headers that an image has.
 pub const MAX_SEGMENTS: usize = 64;
 
-// Offsets in the file's header (ELF: Elf32_Ehdr).
+/// Where the file's header tells whether it is of 32 or 64 bits.
 pub const EI_CLASS: usize = 4;
+
+/// Where the file's header tells the order of a number's bytes.
 pub const EI_DATA: usize = 5;
+
+/// Where the file's header tells its own version.
 pub const EI_VERSION: usize = 6;
+
+/// Where the file's header tells whether it is executable.
 pub const E_TYPE: usize = 16;
+
+/// Where the file's header tells the machine.
 pub const E_MACHINE: usize = 18;
+
+/// Where the file's header tells the file's version.
 pub const E_VERSION: usize = 20;
+
+/// Where the file's header tells the address of the first instruction.
 pub const E_ENTRY: usize = 24;
+
+/// Where the file's header tells the offset of the program headers.
 pub const E_PHOFF: usize = 28;
+
+/// Where the file's header tells the machine's flags.
 pub const E_FLAGS: usize = 36;
+
+/// Where the file's header tells the size of a program header.
 pub const E_PHENTSIZE: usize = 42;
+
+/// Where the file's header tells the number of program headers.
 pub const E_PHNUM: usize = 44;
 
-// Offsets in a program header (ELF: Elf32_Phdr).
+/// Where a program header tells the segment's type.
 const P_TYPE: usize = 0;
+
+/// Where a program header tells the offset of the segment's bytes.
 const P_OFFSET: usize = 4;
+
+/// Where a program header tells the segment's first address.
 const P_VADDR: usize = 8;
+
+/// Where a program header tells how many bytes the file has.
 const P_FILESZ: usize = 16;
+
+/// Where a program header tells how many bytes memory has.
 const P_MEMSZ: usize = 20;
 
-// Types of a segment (ELF: p_type).
+/// The type of a segment that is copied into memory.
 const PT_LOAD: u32 = 1;
+
+/// The type of a segment for a dynamic linker.
 const PT_DYNAMIC: u32 = 2;
+
+/// The type of a segment that names a dynamic linker.
 const PT_INTERP: u32 = 3;
 
 /// The little-endian number of two bytes at an offset of the file.
@@ -130,7 +162,7 @@ pub fn read_segments(bytes: &[u8]) -> ArrayVec<Segment, MAX_SEGMENTS>
     requires long { 52 ≤ length bytes.now }
     requires short { length bytes.now ≤ 16777216 }
     requires few { e_phnum bytes.now ≤ 64 }
-    requires inside { 0 < e_phnum bytes.now → e_phoff bytes.now + 32 * e_phnum bytes.now ≤ length bytes.now }
+    requires inside { 0 < e_phnum bytes.now → table_end bytes.now ≤ length bytes.now }
     ensures { result.items ≡ segments_of bytes.now }
 {
     let count = half_at(bytes, E_PHNUM) as usize;

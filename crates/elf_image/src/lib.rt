@@ -8,3 +8,6 @@ mod refusal;
 
 pub use image::{EntryPoint, load};
 pub use refusal::ImageRefusal;
+
+#[cfg(test)]
+mod tests;
