@@ -6,6 +6,7 @@ mod line;
 mod output;
 mod report;
 
+pub use line::put_line;
 pub use report::{put_end, put_report, put_run};
 
 /// What is written of a run: its whole trace.

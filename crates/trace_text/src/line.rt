@@ -98,9 +98,10 @@ impl Line {
     }
 }
 
-/// Writes a word, numbers and the line's end, in one put.
+/// Writes a line in one put: a word of at most 100 bytes, at most 4 numbers with a blank before each, and
+/// the line's end. Ok and SinkFailed come as at `put_report`.
 pub fn put_line<O: Sink>(word: &[u8], numbers: &[u64], out: &mut O) -> Result<(), SinkFailed>
-    requires short { length word.now ≤ 12 }
+    requires short { length word.now ≤ 100 }
     requires few { length numbers.now ≤ 4 }
     ensures { Writes result (O.written out.old) (O.written out.new) (O.faults out.old) (O.faults out.new) (line word.now numbers.now) }
 {

@@ -1,0 +1,47 @@
+-- What a replay writes: the text of a run from the image.
+use Rattle.std.specs.Prelude.{ℕ, ◌≡◌, List, take, Option, None}
+use Rattle.elf_image.specs.Layout.{IsStart, segments_of, e_entry}
+use Rattle.elf_image.specs.Refusal.{first_refusal}
+use Rattle.replay_io.specs.Writing.{Appended, AppendedFront}
+use Rattle.posix_model.specs.Runs.{Moment}
+use Rattle.posix_model.specs.Start as machine
+use Rattle.posix_model.specs.Trace.{IsText, IsWholeText}
+use Rattle.posix_model.specs.declared.Settings.{Settings}
+use Rattle.posix_model.specs.declared.Ending.{Ending}
+
+-- the bytes that a load gives of a content: one more than an image or a journal may have
+-- (kept folded, since its number is large)
+unfoldable pub loaded : List ℕ → List ℕ
+loaded content = take 16777217 content
+
+-- the bytes of the window
+abbrev pub memory_size : ℕ
+memory_size = 4194304
+
+-- the budget of instructions, and the ticks of a turn
+abbrev pub default_settings : Settings
+default_settings = record { budget = 1000000; quantum = 4 }
+
+-- a run at the start of the machine, over the memory of an accepted image
+pub record IsStartOf (image : List ℕ) (start : Moment) : Type 0 where
+  pub accepted : first_refusal image memory_size ≡ None
+  pub memory : List ℕ
+  pub holds : IsStart image (segments_of image) memory_size memory
+  pub begins : start ≡ machine.start memory (e_entry image)
+
+-- the text of one whole run from an image came behind what was written before; its last line names the ending
+pub record WritesRunOf (image : List ℕ) (before after : Option (List ℕ)) : Type 0 where
+  pub start : Moment
+  pub of_image : IsStartOf image start
+  pub ending : Ending
+  pub trace : List ℕ
+  pub whole : IsWholeText default_settings start ending trace
+  pub told : Appended before after trace
+
+-- a front of the text of a run from an image came behind what was written before
+pub record WritesFrontOf (image : List ℕ) (before after : Option (List ℕ)) : Type 0 where
+  pub start : Moment
+  pub of_image : IsStartOf image start
+  pub trace : List ℕ
+  pub part : IsText default_settings start trace
+  pub told : AppendedFront before after trace

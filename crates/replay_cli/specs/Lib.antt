@@ -1,0 +1,5 @@
+pub mod Words
+pub mod Journal
+pub mod Failures
+pub mod Headline
+pub mod Causes

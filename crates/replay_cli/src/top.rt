@@ -1,0 +1,159 @@
+ghost use Rattle.std.specs.Prelude.{◌≡◌, ◌≢◌, ◌<◌, ◌≤◌, ◌⊎◌, ◌↔◌, ◌+◌, true, false, [], length, slice_index_or, take, IfSome, IfOk, IfErr, OnOk, List, ℕ, Option, Some, None};
+ghost use Rattle.elf_image.specs.Refusal.{first_refusal};
+ghost use Rattle.replay_io.specs.Writing.{Rose};
+ghost use Rattle.process_engine.specs.Single.{moment_of};
+ghost use Rattle.replay_cli.specs.Words.{are_accepted, image_name, journal_name};
+ghost use Rattle.replay_cli.specs.Journal.{first_bad};
+ghost use Rattle.replay_cli.specs.Failures.{status_of};
+ghost use Rattle.replay_cli.specs.Headline.{loaded, memory_size, default_settings, IsStartOf, WritesRunOf, WritesFrontOf};
+ghost use Rattle.replay_cli.specs.Causes.{IsImage, IsJournal, ImageCause, JournalCause, Cause, Tells, Fails, IsSmooth};
+
+use crate::accepted::are_accepted;
+use crate::failure::{Failure, Status};
+use crate::journal::check_journal;
+use posix_model::Settings;
+use process_engine::{Process, WriteFault};
+use replay_io::{Files, LoadRefusal, Sink, Words};
+use rv_exec::Memory;
+use std::alloc::Global;
+use trace_text::Mode;
+
+/// The bytes of the window.
+const MEMORY: u32 = 4_194_304;
+
+/// The most bytes of an image or a journal.
+const MOST: usize = 16_777_216;
+
+/// How many instructions a run may make, and how many ticks a turn of a thread lasts.
+const SETTINGS: Settings = Settings {
+    budget: 1_000_000,
+    quantum: 4,
+};
+
+/// The first bytes of what a name holds, with one more than an image or a journal may have.
+#[tactic(auto, unfolding(crate::specs::Headline::loaded))]
+fn load_file<F: Files>(alloc: Global, name: &str, files: &mut F) -> Result<Vec<u8>, LoadRefusal>
+    ensures bytes { IfOk result (λ v. IfSome (F.content files.old name.now) (λ c. v.items ≡ loaded c)) }
+    ensures same { (n : List ℕ) → F.content files.new n ≡ F.content files.old n }
+    ensures later { (n : List ℕ) → F.faults files.old n ≤ F.faults files.new n }
+    ensures failed { result ≡ Err LoadRefusal.Failed → Rose (F.faults files.old name.now) (F.faults files.new name.now) }
+{
+    files.load(alloc, name, MOST)
+}
+
+/// The process of an image, or why there is none.
+fn accept_image<F: Files>(alloc: Global, name: &str, files: &mut F) -> Result<Process, Failure>
+    ensures settings { IfOk result (λ p. p.settings ≡ default_settings) }
+    ensures start { IfOk result (λ p. IfSome (F.content files.old name.now) (λ image. IsStartOf (loaded image) (moment_of p))) }
+    ensures cause { IfErr result (ImageCause (F.content files.old name.now) (F.faults files.old name.now) (F.faults files.new name.now)) }
+    ensures same { (n : List ℕ) → F.content files.new n ≡ F.content files.old n }
+    ensures later { (n : List ℕ) → F.faults files.old n ≤ F.faults files.new n }
+{
+    let image = match load_file(alloc, name, files) {
+        Ok(bytes) => bytes,
+        Err(LoadRefusal::Failed) => return Err(Failure::ImageFile),
+        Err(LoadRefusal::NoMemory) => return Err(Failure::Memory),
+    };
+    let Ok(mut mem) = Memory::new(alloc, MEMORY) else {
+        return Err(Failure::Memory);
+    };
+    let entry = match elf_image::load(&image, &mut mem) {
+        Ok(entry) => entry,
+        Err(refusal) => return Err(Failure::Image(refusal)),
+    };
+    match Process::new(alloc, mem, entry, SETTINGS) {
+        Ok(process) => Ok(process),
+        Err(_) => Err(Failure::Memory),
+    }
+}
+
+/// Whether the journal is accepted, or why it is not.
+fn accept_journal<F: Files>(alloc: Global, name: &str, files: &mut F) -> Result<(), Failure>
+    ensures ok { OnOk result (IsJournal (F.content files.old name.now)) }
+    ensures cause { IfErr result (JournalCause (F.content files.old name.now) (F.faults files.old name.now) (F.faults files.new name.now)) }
+    ensures same { (n : List ℕ) → F.content files.new n ≡ F.content files.old n }
+    ensures later { (n : List ℕ) → F.faults files.old n ≤ F.faults files.new n }
+{
+    let journal = match load_file(alloc, name, files) {
+        Ok(bytes) => bytes,
+        Err(LoadRefusal::Failed) => return Err(Failure::JournalFile),
+        Err(LoadRefusal::NoMemory) => return Err(Failure::Memory),
+    };
+    match check_journal(&journal) {
+        None => Ok(()),
+        Some(refusal) => Err(Failure::Journal(refusal)),
+    }
+}
+
+/// Checks the words, loads and checks image and journal, and runs; the first thing that fails ends it.
+fn attempt<F: Files, O: Sink>(
+    alloc: Global,
+    words: &Words,
+    files: &mut F,
+    out: &mut O,
+) -> Result<(), Failure>
+    ensures words { OnOk result (are_accepted words.now ≡ true) }
+    ensures journal { OnOk result (IsJournal (F.content files.old (journal_name words.now))) }
+    ensures ran { OnOk result (IfSome (F.content files.old (image_name words.now)) (λ image. WritesRunOf (loaded image) (O.written out.old) (O.written out.new))) }
+    ensures kept { OnOk result (O.faults out.new ≡ O.faults out.old) }
+    ensures cause { IfErr result (Cause words.now (F.content files.old) (F.faults files.old) (F.faults files.new) (O.faults out.old) (O.faults out.new)) }
+    ensures nothing { IfErr result (λ f. f ≢ Failure.Output → out.new ≡ out.old) }
+    ensures front { IfErr result (λ f. f ≡ Failure.Output → IfSome (F.content files.old (image_name words.now)) (λ image. WritesFrontOf (loaded image) (O.written out.old) (O.written out.new))) }
+    ensures same { (n : List ℕ) → F.content files.new n ≡ F.content files.old n }
+{
+    if !are_accepted(words) {
+        return Err(Failure::Words);
+    }
+    let process = match accept_image(alloc, words.word(0), files) {
+        Ok(process) => process,
+        Err(failure) => return Err(failure),
+    };
+    match accept_journal(alloc, words.word(1), files) {
+        Ok(()) => {}
+        Err(failure) => return Err(failure),
+    }
+    match process.run(out, Mode::Trace) {
+        Ok(_) => Ok(()),
+        Err(WriteFault) => Err(Failure::Output),
+    }
+}
+
+/// Replays the image under the journal that the words name: loads and checks both, and writes the trace of
+/// the run to `out`. Where it does not run to its end it writes one line to `err` and tells why by its
+/// status. Nothing but loading may find no memory, and then nothing was written to `out`.
+pub fn replay<F: Files, O: Sink, E: Sink>(
+    alloc: Global,
+    words: &Words,
+    files: &mut F,
+    out: &mut O,
+    err: &mut E,
+) -> Status
+    // Where it ran, what came to `out` is the text of one list of moves; that list is a run of the thread
+    // machine from the image's start, and the last line names its ending.
+    ensures ran { result ≡ Status.Ran → IfSome (F.content files.old (image_name words.now)) (λ image. WritesRunOf (loaded image) (O.written out.old) (O.written out.new)) }
+    ensures kept { result ≡ Status.Ran → O.faults out.new ≡ O.faults out.old }
+    ensures quiet { result ≡ Status.Ran → err.new ≡ err.old }
+
+    // Each other status has its cause, and its line on `err`.
+    ensures fails { (result ≡ Status.Ran) ⊎ Fails result (Cause words.now (F.content files.old) (F.faults files.old) (F.faults files.new) (O.faults out.old) (O.faults out.new)) (E.written err.old) (E.written err.new) (E.faults err.old) (E.faults err.new) }
+    ensures words { (result ≡ Status.Words) ↔ (are_accepted words.now ≡ false) }
+    ensures read { result ≡ Status.ReadFault → Rose (F.faults files.old (image_name words.now)) (F.faults files.new (image_name words.now)) ⊎ (IsImage (F.content files.old (image_name words.now)) × Rose (F.faults files.old (journal_name words.now)) (F.faults files.new (journal_name words.now))) }
+    ensures image { result ≡ Status.Image → IfSome (F.content files.old (image_name words.now)) (λ image. first_refusal (loaded image) memory_size ≢ None) }
+    ensures journal { result ≡ Status.Journal → IfSome (F.content files.old (journal_name words.now)) (λ journal. first_bad (loaded journal) ≢ None) }
+    ensures write { result ≡ Status.WriteFault → Rose (O.faults out.old) (O.faults out.new) }
+
+    // What stands in `out` afterwards.
+    ensures nothing { result ≢ Status.Ran → result ≢ Status.WriteFault → out.new ≡ out.old }
+    ensures front { result ≡ Status.WriteFault → IfSome (F.content files.old (image_name words.now)) (λ image. WritesFrontOf (loaded image) (O.written out.old) (O.written out.new)) }
+
+    // Where all is accepted and nothing fails, it runs, or memory runs out.
+    ensures complete { IsSmooth words.now (F.content files.old) (F.faults files.old) (F.faults files.new) (O.faults out.old) (O.faults out.new) → (result ≡ Status.Ran) ⊎ (result ≡ Status.NoMemory) }
+{
+    match attempt(alloc, words, files, out) {
+        Ok(()) => Status::Ran,
+        Err(failure) => {
+            let _ = failure.put_line(err);
+            failure.status()
+        }
+    }
+}
