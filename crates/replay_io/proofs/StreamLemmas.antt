@@ -5,7 +5,10 @@ use Rattle.std.proofs.lemmas.List.{take_rest}
 use Rattle.std.specs.Io.KnownBytes.{Appends}
 
 -- a front of all was written, and then n bytes of the rest
-pub one_more_write : (a b c : Option (List ℕ)) (done rest all : List ℕ) (n : ℕ) → done ++ rest ≡ all → Appends a b done → Appends b c (take n rest)
+pub one_more_write : (a b c : Option (List ℕ)) (done rest all : List ℕ) (n : ℕ)
+    → done ++ rest ≡ all
+    → Appends a b done
+    → Appends b c (take n rest)
     → (now : List ℕ) × (now ++ take (length rest - n) (drop n rest) ≡ all) × Appends a c now
 one_more_write a b c done rest all n e p q = (
   done ++ take n rest,

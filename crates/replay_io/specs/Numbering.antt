@@ -1,4 +1,4 @@
--- The numbers of calls (this project's own).
+-- Numbers of calls (this project's own).
 use Rattle.std.specs.Prelude.{ℕ, ◌+◌, ◌-◌, ◌^◌, min}
 
 -- the number of the next call, counted from 1 in 32 bits: it stays at the last value

@@ -3,10 +3,12 @@ ghost use Rattle.replay_io.specs.Writing.{Rose};
 
 use std::alloc::Global;
 
-/// Why a load gave nothing: the file could not be read, or memory ran out.
+/// Why a load gave nothing.
 #[derive(Clone, Copy, Debug, PartialEq, Eq)]
 pub enum LoadRefusal {
+    /// The file could not be read.
     Failed,
+    /// Memory ran out.
     NoMemory,
 }
 
@@ -18,9 +20,9 @@ pub trait Files {
     /// How often a load of a name has failed: a count that never falls.
     ghost faults: { Self → List ℕ → ℕ };
 
-    /// Gives the first `most + 1` bytes of what a name holds, or all where it is shorter.
-    /// Failed comes only where the count of this name's faults rose; NoMemory is free. Ok and
-    /// NoMemory leave the count, and no load changes any content or the count of another name.
+    /// Gives the first `most + 1` bytes of what a name holds, or all where it is shorter. Failed comes
+    /// only where the count of this name's faults rose; Ok and NoMemory leave it, and NoMemory is free.
+    /// No load changes any content, or the count of another name.
     fn load(&mut self, alloc: Global, name: &str, most: usize) -> Result<Vec<u8>, LoadRefusal>
         requires { most < 2 ^ 31 }
         ensures bytes { IfOk result (λ v. IfSome (content self.old name.now) (λ c. v.items ≡ take (most + 1) c)) }

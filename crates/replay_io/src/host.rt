@@ -1,4 +1,5 @@
-ghost use Rattle.std.specs.Prelude.{◌≡◌, ◌≢◌, ◌<◌, ◌≤◌, ◌^◌, ◌+◌, ◌-◌, List, [], ℕ, Err, None, length, take, min, is_ok, if◌then◌else◌, IfOk, OnOk, OnErr, IfSome};
+ghost use Rattle.std.specs.Prelude.{◌≡◌, ◌≢◌, ◌<◌, ◌≤◌, ◌^◌, ◌+◌, ◌-◌, List, [], ℕ, length, take, min};
+ghost use Rattle.std.specs.Prelude.{IfOk, OnOk, OnErr, IfSome, is_ok, if◌then◌else◌, None};
 ghost use Rattle.replay_io.specs.Loading.{is_failed};
 ghost use Rattle.replay_io.specs.Names.{times, failures_after};
 ghost use Rattle.replay_io.specs.Streams.{AppendsFront};
@@ -13,7 +14,8 @@ use std::io::{ErrorKind, Read, Write};
 use std::marker::Model;
 use std::{fs, rt};
 
-/// Real files. Clauses see the names whose load failed, in order.
+/// Real files, which tell nothing of their content (POSIX.1 open and read). Clauses see the names
+/// whose load failed, in order.
 #[derive(Drop)]
 pub struct HostFiles<R: rt::Files + Drop> {
     rt: R,
@@ -43,7 +45,8 @@ impl<R: rt::Files + Drop> HostFiles<R> {
 /// One read, made again where a signal interrupts it.
 fn read_some<F: Read>(file: &mut F, piece: &mut [u8]) -> Result<usize, LoadRefusal>
     ensures fits { IfOk result (λ count. count ≤ length piece.old) }
-    ensures ok { IfOk result (λ count. Consumes (F.remaining file.old) (F.remaining file.new) (take count piece.new)) }
+    ensures ok { IfOk result (λ count.
+        Consumes (F.remaining file.old) (F.remaining file.new) (take count piece.new)) }
     ensures end { IfOk result (λ count. count ≡ 0 → 0 < length piece.old → IsAtEnd (F.remaining file.new)) }
 {
     for _ in 0..u64::MAX {
@@ -118,8 +121,8 @@ impl<R: rt::Files + Drop> Files for HostFiles<R> {
     }
 }
 
-/// A real stream. Clauses see how often a put has failed, and what the writer tells that it holds:
-/// standard output and standard error tell nothing.
+/// A real stream (POSIX.1 write), flushed at each put. As a sink it tells nothing of what it wrote.
+/// Clauses see how often a put has failed, and what the writer holds, where the writer tells that.
 #[derive(Drop)]
 pub struct HostOut<W: Write + Drop> {
     writer: W,
@@ -147,7 +150,8 @@ impl<W: Write + Drop> HostOut<W> {
 fn write_some<W: Write>(writer: &mut W, piece: &[u8]) -> Result<usize, SinkFailed>
     ensures some { IfOk result (λ count. 0 < count) }
     ensures fits { IfOk result (λ count. count ≤ length piece.now) }
-    ensures ok { IfOk result (λ count. Appends (W.contents writer.old) (W.contents writer.new) (take count piece.now)) }
+    ensures ok { IfOk result (λ count.
+        Appends (W.contents writer.old) (W.contents writer.new) (take count piece.now)) }
     ensures err { OnErr result (Keeps (W.contents writer.old) (W.contents writer.new)) }
 {
     for _ in 0..u64::MAX {
@@ -186,7 +190,8 @@ impl<W: Write + Drop> Sink for HostOut<W> {
     fn put(&mut self, piece: &[u8]) -> Result<(), SinkFailed>
         ensures writes { Writes result None None self.old.faults self.new.faults piece.now }
         // Beside what each put ensures: how the count rises, and what the writer took, if it tells.
-        ensures count { self.new.faults ≡ (if is_ok result then self.old.faults else min (self.old.faults + 1) (2 ^ 64 - 1)) }
+        ensures count { self.new.faults
+            ≡ (if is_ok result then self.old.faults else min (self.old.faults + 1) (2 ^ 64 - 1)) }
         ensures ok { OnOk result (Appends self.old.held self.new.held piece.now) }
         ensures err { OnErr result (AppendsFront self.old.held self.new.held piece.now) }
     {
@@ -204,8 +209,8 @@ mod tests {
     use std::io;
     use std::test::Fail;
 
-    /// Takes or gives at most `step` bytes at a call, is interrupted at its first call, and fails
-    /// at the call and at the flush of these numbers.
+    /// Takes or gives at most `step` bytes at a call. Its first call is interrupted, the call of the
+    /// number `fails_at` fails, and each flush may fail.
     #[derive(Drop)]
     struct Pipe {
         bytes: Vec<u8>,

@@ -1,11 +1,11 @@
-ghost use Rattle.std.specs.Prelude.{◌≡◌, ◌≢◌, ◌<◌, ◌≤◌, ◌^◌, ◌+◌, ◌++◌, List, [], ◌∷◌, ℕ, Option, Some, None, Err, take, map, IfOk, OnOk, OnErr, IfSome, IsTrue, IsSome, true, false, reverse, is_some, length};
+ghost use Rattle.std.specs.Prelude.{◌≡◌, ◌≢◌, ◌<◌, ◌≤◌, ◌^◌, ◌+◌, ◌++◌, List, [], ◌∷◌, ℕ, length, take, true, false};
+ghost use Rattle.std.specs.Prelude.{IfOk, OnOk, OnErr, IfSome, IsTrue, is_some};
 ghost use Rattle.std.specs.Option.{option_map};
 ghost use Rattle.std.specs.Str.{bytes_eq};
-ghost use Rattle.std.specs.List.{find};
 ghost use Rattle.replay_io.specs.Writing.{Rose};
 ghost use Rattle.replay_io.specs.Names.{times};
 ghost use Rattle.replay_io.specs.Loading.{is_failed};
-ghost use Rattle.replay_io.specs.Shelf.{Shelf, last_under, is_loadable, shelf_after};
+ghost use Rattle.replay_io.specs.Shelf.{last_under, is_loadable, shelf_after};
 
 use crate::failures::Failures;
 use crate::files::{Files, LoadRefusal};
@@ -69,7 +69,8 @@ fn read_held(alloc: Global, held: &[Held], name: &str, most: usize) -> Result<Ve
     Ok(copy)
 }
 
-/// Files in memory, whose loads fail where a list says so. A name that was not added fails too.
+/// Files in memory, whose loads fail where a list says so. A load of a name that was not added
+/// fails too.
 #[derive(Drop)]
 pub struct MemFiles {
     alloc: Global,
@@ -105,7 +106,7 @@ impl MemFiles {
         })
     }
 
-    /// Gives a name its bytes, in place of those that it had. After NoMemory nothing has changed.
+    /// Gives a name its bytes: the latest add wins. After NoMemory nothing has changed.
     #[tactic(auto, using(crate::proofs::NamesLemmas::added))]
     pub fn add(&mut self, name: &str, bytes: &[u8]) -> Result<(), NoMemory>
         ensures ok { OnOk result (self.new ≡ record self.old { held = self.old.held ++ (name.now, bytes.now) ∷ [] }) }
@@ -134,13 +135,16 @@ impl Files for MemFiles {
     #[tactic(auto, using(crate::proofs::NamesLemmas::counts))]
     fn load(&mut self, alloc: Global, name: &str, most: usize) -> Result<Vec<u8>, LoadRefusal>
         requires { most < 2 ^ 31 }
-        ensures bytes { IfOk result (λ v. IfSome (last_under self.old.held name.now) (λ c. v.items ≡ take (most + 1) c)) }
+        ensures bytes { IfOk result (λ v.
+            IfSome (last_under self.old.held name.now) (λ c. v.items ≡ take (most + 1) c)) }
         ensures long { IfOk result (λ v. length v.items ≤ most + 1) }
         ensures same { (n : List ℕ) → last_under self.new.held n ≡ last_under self.old.held n }
         ensures others { (n : List ℕ) → n ≢ name.now → times n self.new.failed ≡ times n self.old.failed }
         ensures later { times name.now self.old.failed ≤ times name.now self.new.failed }
-        ensures failed { result ≡ Err LoadRefusal.Failed → Rose (times name.now self.old.failed) (times name.now self.new.failed) }
-        ensures kept { (result ≢ Err LoadRefusal.Failed) → times name.now self.new.failed ≡ times name.now self.old.failed }
+        ensures failed { result ≡ Err LoadRefusal.Failed
+            → Rose (times name.now self.old.failed) (times name.now self.new.failed) }
+        ensures kept { (result ≢ Err LoadRefusal.Failed)
+            → times name.now self.new.failed ≡ times name.now self.old.failed }
         // Beside what each load ensures: when this one fails, and what it leaves.
         ensures loadable { OnOk result (IsTrue (is_loadable self.old name.now)) }
         ensures refused { result ≡ Err LoadRefusal.Failed → is_loadable self.old name.now ≡ false }

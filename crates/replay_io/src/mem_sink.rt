@@ -31,7 +31,8 @@ impl MemSink {
     /// An empty sink, which takes its memory here. Each pair of `fails` holds the number, from 1, of
     /// a put that fails and how many bytes of its piece it takes before, at most the piece.
     pub fn new(alloc: Global, room: u32, fails: &[(u32, u32)]) -> Result<MemSink, NoMemory>
-        ensures { IfOk result (λ s. s ≡ record { store = empty_store room; puts = 0; fails = fails.now; faults = 0 }) }
+        ensures { IfOk result (λ s.
+            s ≡ record { store = empty_store room; puts = 0; fails = fails.now; faults = 0 }) }
     {
         let kept = Kept::new(alloc, room)?;
         let Ok(fails) = Vec::from_slice(alloc, fails) else {
@@ -68,7 +69,9 @@ impl Sink for MemSink {
     ghost faults = { λ s. s.faults };
 
     fn put(&mut self, piece: &[u8]) -> Result<(), SinkFailed>
-        ensures writes { Writes result (told self.old.store) (told self.new.store) self.old.faults self.new.faults piece.now }
+        ensures writes { Writes result (told self.old.store) (told self.new.store)
+            self.old.faults self.new.faults piece.now }
+        // Beside what each put ensures: when this one fails, and what it leaves.
         ensures fails { IsErr result ↔ IsSome (failing_put self.old.fails (next_number self.old.puts)) }
         ensures after { self.new ≡ script_after self.old piece.now }
     {

@@ -47,6 +47,7 @@ impl Sink for SureSink {
 
     fn put(&mut self, piece: &[u8]) -> Result<(), SinkFailed>
         ensures writes { Writes result (told self.old) (told self.new) 0 0 piece.now }
+        // Beside what each put ensures: that this one is taken, and what it leaves.
         ensures sure { IsOk result }
         ensures after { self.new ≡ store_after self.old piece.now }
     {

@@ -8,12 +8,14 @@ use Rattle.replay_io.proofs.host.HostFilesFiles.load.Goals as goal
 pub returns-clause-others : goal.returns-clause-others
 returns-clause-others g c = λ n h.
     let failed = is_failed c.read_file-answer.result in
-    let after : c.settle.new.self ≡ failures_after c.args.self.now c.args.name.now failed = grind (arith, common_steps) in
+    let after : c.settle.new.self ≡ failures_after c.args.self.now c.args.name.now failed =
+    grind (arith, common_steps) in
     ap (times n) after ∙ times-after_other n c.args.name.now c.args.self.now failed h
 
 pub returns-clause-later : goal.returns-clause-later
 returns-clause-later g c =
     let failed = is_failed c.read_file-answer.result in
-    let after : c.settle.new.self ≡ failures_after c.args.self.now c.args.name.now failed = grind (arith, common_steps) in
+    let after : c.settle.new.self ≡ failures_after c.args.self.now c.args.name.now failed =
+    grind (arith, common_steps) in
     let P = λ (names : List (List ℕ)). times c.args.name.now c.args.self.now ≤ times c.args.name.now names in
     subst P (sym after) (times-after_later c.args.name.now c.args.self.now failed)

@@ -1,4 +1,4 @@
-use Rattle.std.proofs.Common.{◌≡◌, ◌<◌, ◌^◌, ◌∙◌, ap, take, arith, min, ◌+◌, ◌-◌}
+use Rattle.std.proofs.Common.{◌≡◌, ◌∙◌, ap, take, arith}
 use Rattle.replay_io.specs.Store.{store_after}
 use Rattle.replay_io.proofs.StoreLemmas.{whole_kept, front_kept}
 use Rattle.replay_io.proofs.mem_sink.MemSinkSink.put.Goals as goal
@@ -6,7 +6,8 @@ use Rattle.replay_io.proofs.mem_sink.MemSinkSink.put.Goals as goal
 pub returns-in-None-clause-writes : goal.returns-in-None-clause-writes
 returns-in-None-clause-writes c =
     let stored = c.add.ensures ∙ ap (λ s. store_after s.store c.args.piece.now) c.self.view_is in
-    whole_kept c.args.self.now.store c.add.new.self c.args.self.now.faults _ c.args.piece.now stored (ap (λ s. s.faults) c.self.view_is)
+    let same = ap (λ s. s.faults) c.self.view_is in
+    whole_kept c.args.self.now.store c.add.new.self c.args.self.now.faults _ c.args.piece.now stored same
 
 pub returns-in-Some-clause-writes : goal.returns-in-Some-clause-writes
 returns-in-Some-clause-writes c =
