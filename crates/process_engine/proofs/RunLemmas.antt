@@ -112,9 +112,12 @@ pub runs_err : {E : Type 0} (settings : Settings) (start : Moment) (r : Result D
 runs_err settings start (Ok u) a b f g h p = absurd (let e : false ≡ true = h in cc)
 runs_err settings start (Err e) a b f g h p = p
 
--- the ending's text is that of what the run has come to, whichever settings it has
+-- the settings stay what they are
 pub same_turn : (s t : Settings) (now new : Moment) (turn : Turn) → s ≡ t → IsTurn s now turn new → IsTurn t now turn new
 same_turn s t now new turn e h = subst (λ u. IsTurn u now turn new) e h
+
+pub same_ends : (s t : Settings) (now : Moment) (ending : Ending) → s ≡ t → Ends s now ending → Ends t now ending
+same_ends s t now ending e h = subst (λ u. Ends u now ending) e h
 
 module _ (settings : Settings) (start now : Moment) (ending : Ending) (a b c : Option (List ℕ)) (f g h : ℕ) (so_far : SoFarWritten settings start now a b f g)
     (ends : Ends settings now ending) where

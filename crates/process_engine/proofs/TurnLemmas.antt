@@ -23,6 +23,10 @@ use Rattle.thread_base.specs.Numbers.{IsInScope}
 use Rattle.thread_base.specs.Priority.{tids}
 use Rattle.process_engine.specs.Single.{Single, state_of, moment_of, registers_of, made_of}
 use Rattle.process_engine.specs.Turns.{IsTurn}
+use Rattle.process_engine.specs.Advancing.{CanGo, CanTell, IsCounted, FaultsBy, Advanced, Advances}
+use Rattle.process_engine.specs.declared.moves.Cause.{Cause}
+use Rattle.process_engine.specs.declared.moves.Cause.TheVariants.{Call, Fault, Delivery}
+use Rattle.process_engine.specs.declared.moves.Came.TheVariants.{Plain, Told, End}
 use Rattle.process_engine.specs.declared.Turn.TheVariants.{Quiet, Made as MadeTurn}
 use Rattle.process_engine.proofs.Singles.{registers_are, with_registers, first_is_chosen, none_is_next, fault_is_next}
 
@@ -71,10 +75,6 @@ by p = ap (λ (r : Registers). by_effect (state_of p) 1 (effect r.pc r.x p.memor
 pub has_turn : (p : Single) → p.over ≡ None → p.fault ≡ None → IsTurnOf (state_of p) 1
 unfolding state_of
 has_turn p over fault = record { going_on = over; settled = none_is_next p fault; first = first_is_chosen p }
-
--- a process after an instruction, of which its event tells the rest
-abbrev pub IsCounted : Single → Single → Type 0
-IsCounted p q = q ≡ record p { pc = q.pc; x = q.x; memory = q.memory; made = p.made + 1; last = Some 1 }
 
 still_state : (p q : Single) → IsCounted p q → IsStill p.pc p.x p.memory q.pc q.x q.memory → state_of q ≡ state_of p
 unfolding state_of
@@ -149,6 +149,11 @@ return_told p q which sig now counted h same e =
     ∙ ap (λ (s : State). faulted s 1 segmentation_fault) (still_state p q counted it.1)
     ∙ sym (by p ∙ ap (by_effect (state_of p) 1) it.0)
 
+-- a fault of either kind
+pub fault_made_by : (p q : Single) (sig : ℕ) (now : Made) → IsCounted p q → FaultsBy p sig q → now ≡ faulted (state_of q) 1 sig → now ≡ instruction (state_of p) 1
+fault_made_by p q sig now counted (inl h) e = fault_told p q sig now counted h e
+fault_made_by p q sig now counted (inr h) e = return_told p q h.0 sig now counted h.1 h.2 e
+
 -- a delivery
 pub delivery_turn : (p r : Single) (sig : ℕ) (report : Report) → p.over ≡ None → p.fault ≡ Some sig → IsInScope sig
     → made_of r report ≡ deliver (state_of p) → r.made ≡ p.made → r.last ≡ p.last
@@ -171,3 +176,18 @@ over_ends p ending e = inl e
 -- the budget is used up
 pub budget_ends : (p : Single) → p.over ≡ None → p.fault ≡ None → p.made ≡ p.settings.budget → Ends p.settings (moment_of p) Budget
 budget_ends p over fault made = inr (inr (refl, record { used_up = made; tid = 1; turn = has_turn p over fault }))
+
+-- what was counted keeps the rest
+pub counted_settings : (p q : Single) → IsCounted p q → q.settings ≡ p.settings
+counted_settings p q counted = ap (λ (r : Single). r.settings) counted
+
+-- a move that is still to be told can be told
+pub can_tell : (p : Single) (cause : Cause) (q : Single) → Advanced p cause q → CanTell cause q
+can_tell p Call q h = ap (λ (r : Single). r.fault) h.1 ∙ h.0.fault
+can_tell p (Fault sig) q h = (ap (λ (r : Single). r.fault) h.1 ∙ h.0.fault, ap (λ (r : Single). r.over) h.1 ∙ h.0.over)
+can_tell p (Delivery sig) q h = ap (λ (r : Single). r.fault) h.2 ∙ h.1
+
+pub same_settings : (p : Single) (cause : Cause) (q : Single) → Advanced p cause q → q.settings ≡ p.settings
+same_settings p Call q h = counted_settings p q h.1
+same_settings p (Fault sig) q h = counted_settings p q h.1
+same_settings p (Delivery sig) q h = ap (λ (r : Single). r.settings) h.2

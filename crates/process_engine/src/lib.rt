@@ -2,6 +2,7 @@
 #![tactic(auto)]
 
 mod calls;
+mod moves;
 mod process;
 
 use posix_model::{Ending, Report};

@@ -15,8 +15,10 @@ ghost use Rattle.rv_exec.specs.Outcome.{HasEffect};
 ghost use Rattle.trace_text.specs.Output.{IsReadable};
 ghost use Rattle.process_engine.specs.Single.{Single, KeepsRest, state_of, moment_of, registers_of, called_of, made_of};
 ghost use Rattle.process_engine.specs.Turns.{IsTurn, Runs};
+ghost use Rattle.process_engine.specs.Advancing.{CanGo, CanTell, Advanced, Advances};
 
 use crate::calls::{Answer, MOST_WRITTEN, answer_registers, output};
+use crate::moves::{Came, Cause};
 use crate::{Done, Turn, WriteFault};
 use elf_image::EntryPoint;
 use posix_model::{Arguments, Ending, Head, Reply, Report, Settings};
@@ -255,20 +257,47 @@ impl Process {
         exec(&mut self.regs, &mut self.mem)
     }
 
-    /// Makes an instruction in its turn.
-    fn instruction(&mut self) -> Turn
-        requires going_on { self.old.over ≡ None }
-        requires settled { self.old.fault ≡ None }
-        requires budget { self.old.made < self.old.settings.budget }
-        ensures turn { IsTurn self.old.settings (moment_of self.old) result (moment_of self.new) }
-        ensures settings { self.new.settings ≡ self.old.settings }
-        ensures goes_on { (e : Ending) → result ≡ Turn.Ended e → ⊥ }
+    /// Makes an instruction in its turn, up to what its event asks for.
+    fn advance_instruction(&mut self) -> Came
+        requires { CanGo self.old }
+        ensures { Advances self.old result self.new }
     {
         match self.step() {
-            Event::Next => Turn::Quiet,
-            Event::Ecall => Turn::Made(self.call()),
-            Event::Fault(sig) => Turn::Made(self.note_fault(sig)),
-            Event::Return(_) => Turn::Made(self.note_fault(Sig::of(SIGSEGV))),
+            Event::Next => Came::Plain,
+            Event::Ecall => Came::Told(Cause::Call),
+            Event::Fault(sig) => Came::Told(Cause::Fault(sig)),
+            Event::Return(_) => Came::Told(Cause::Fault(Sig::of(SIGSEGV))),
+        }
+    }
+
+    /// Goes on by one move, but for what the move's report tells: that is made by `tell`.
+    fn advance(&mut self) -> Came
+        ensures { Advances self.old result self.new }
+    {
+        match self.over {
+            Some(ending) => return Came::End(ending),
+            None => {}
+        }
+        match self.fault {
+            Some(sig) => return Came::Told(Cause::Delivery(sig)),
+            None => {}
+        }
+        if self.made == self.settings.budget {
+            return Came::End(Ending::Budget);
+        }
+        self.advance_instruction()
+    }
+
+    /// Makes the rest of a move, and tells it.
+    fn tell(&mut self, cause: Cause) -> Report
+        requires { CanTell cause self.old }
+        ensures turn { (p : Single) → Advanced p cause self.old → IsTurn p.settings (moment_of p) (Turn.Made result) (moment_of self.new) }
+        ensures settings { self.new.settings ≡ self.old.settings }
+    {
+        match cause {
+            Cause::Call => self.call(),
+            Cause::Fault(sig) => self.note_fault(sig),
+            Cause::Delivery(sig) => self.deliver(sig),
         }
     }
 
@@ -277,20 +306,12 @@ impl Process {
     pub fn turn(&mut self) -> Turn
         ensures turn { IsTurn self.old.settings (moment_of self.old) result (moment_of self.new) }
         ensures settings { self.new.settings ≡ self.old.settings }
-        ensures nothing_left { (e : Ending) → result ≡ Turn.Ended e → self.new.fault ≡ None }
     {
-        match self.over {
-            Some(ending) => return Turn::Ended(ending),
-            None => {}
+        match self.advance() {
+            Came::Plain => Turn::Quiet,
+            Came::Told(cause) => Turn::Made(self.tell(cause)),
+            Came::End(ending) => Turn::Ended(ending),
         }
-        match self.fault {
-            Some(sig) => return Turn::Made(self.deliver(sig)),
-            None => {}
-        }
-        if self.made == self.settings.budget {
-            return Turn::Ended(Ending::Budget);
-        }
-        self.instruction()
     }
 
     /// How many of each signal still pend, by number: none where no fault waits for its delivery.
@@ -338,10 +359,13 @@ impl Process {
     {
         loop {
             let before = self.last;
-            match self.turn() {
-                Turn::Quiet => self.put_switch(before, out)?,
-                Turn::Made(report) => self.put_made(before, &report, mode, out)?,
-                Turn::Ended(ending) => {
+            match self.advance() {
+                Came::Plain => self.put_switch(before, out)?,
+                Came::Told(cause) => {
+                    let report = self.tell(cause);
+                    self.put_made(before, &report, mode, out)?;
+                }
+                Came::End(ending) => {
                     put_end(&ending, &self.left(), out)?;
                     return Ok(Done { ending });
                 }
