@@ -78,32 +78,48 @@ pub fn exec(regs: &mut Regs, mem: &mut Memory) -> Event
 
 impl Regs {
     /// Makes an instruction that was fetched and decoded.
-    #[tactic(auto, unfolding(crate::specs::Meaning::effect_of))]
+    #[tactic(auto, unfolding(crate::specs::Meaning::effect_of, crate::specs::Meaning::computed, crate::specs::Meaning::computed_with_immediate))]
     #[inline(always)]
     fn make(&mut self, instr: Instr, mem: &mut Memory) -> Event
         requires { NamesRegisters instr }
         ensures { HasEffect (effect_of instr self.old.pc self.old.x mem.old) result self.old.pc self.old.x mem.old self.new.pc self.new.x mem.new }
     {
-        match instr.row {
-            row::LUI => self.write(instr.rd, instr.imm),
-            row::AUIPC => self.write(instr.rd, self.pc.wrapping_add(instr.imm)),
-            row::JAL => self.jump(instr.rd, self.pc.wrapping_add(instr.imm)),
-            row::JALR => {
-                let target = self.x[instr.rs1 as usize].wrapping_add(instr.imm);
-                self.jump(instr.rd, target & 0xffff_fffe)
-            }
+        let Instr { row, rd, rs1, rs2, imm } = instr;
+        match row {
+            row::LUI => self.write(rd, imm),
+            row::AUIPC => self.write(rd, self.pc.wrapping_add(imm)),
+            row::JAL => self.jump(rd, self.pc.wrapping_add(imm)),
+            row::JALR => self.jump(rd, self.at(rs1).wrapping_add(imm) & 0xffff_fffe),
             row::BEQ..=row::BGEU => self.branch(instr),
             row::LB..=row::LHU => self.load(instr, mem),
             row::SB..=row::SW => self.store(instr, mem),
-            row::ADDI..=row::SRAI => {
-                let a = self.x[instr.rs1 as usize];
-                self.write(instr.rd, words::compute_with_immediate(instr.row, a, instr.imm))
-            }
-            row::ADD..=row::REMU => {
-                let a = self.x[instr.rs1 as usize];
-                let b = self.x[instr.rs2 as usize];
-                self.write(instr.rd, words::compute(instr.row, a, b))
-            }
+            row::ADDI => self.write(rd, self.at(rs1).wrapping_add(imm)),
+            row::SLTI => self.write(rd, words::less_signed(self.at(rs1), imm)),
+            row::SLTIU => self.write(rd, words::less(self.at(rs1), imm)),
+            row::XORI => self.write(rd, self.at(rs1) ^ imm),
+            row::ORI => self.write(rd, self.at(rs1) | imm),
+            row::ANDI => self.write(rd, self.at(rs1) & imm),
+            row::SLLI => self.write(rd, self.at(rs1).wrapping_shl(imm)),
+            row::SRLI => self.write(rd, self.at(rs1).wrapping_shr(imm)),
+            row::SRAI => self.write(rd, words::shift_right_signed(self.at(rs1), imm)),
+            row::ADD => self.write(rd, self.at(rs1).wrapping_add(self.at(rs2))),
+            row::SLL => self.write(rd, self.at(rs1).wrapping_shl(self.at(rs2))),
+            row::SLT => self.write(rd, words::less_signed(self.at(rs1), self.at(rs2))),
+            row::SLTU => self.write(rd, words::less(self.at(rs1), self.at(rs2))),
+            row::XOR => self.write(rd, self.at(rs1) ^ self.at(rs2)),
+            row::SRL => self.write(rd, self.at(rs1).wrapping_shr(self.at(rs2))),
+            row::OR => self.write(rd, self.at(rs1) | self.at(rs2)),
+            row::AND => self.write(rd, self.at(rs1) & self.at(rs2)),
+            row::SUB => self.write(rd, self.at(rs1).wrapping_sub(self.at(rs2))),
+            row::SRA => self.write(rd, words::shift_right_signed(self.at(rs1), self.at(rs2))),
+            row::MUL => self.write(rd, self.at(rs1).wrapping_mul(self.at(rs2))),
+            row::MULH => self.write(rd, words::multiply_high_signed(self.at(rs1), self.at(rs2))),
+            row::MULHSU => self.write(rd, words::multiply_high_mixed(self.at(rs1), self.at(rs2))),
+            row::MULHU => self.write(rd, words::multiply_high(self.at(rs1), self.at(rs2))),
+            row::DIV => self.write(rd, words::divide_signed(self.at(rs1), self.at(rs2))),
+            row::DIVU => self.write(rd, words::divide(self.at(rs1), self.at(rs2))),
+            row::REM => self.write(rd, words::remain_signed(self.at(rs1), self.at(rs2))),
+            row::REMU => self.write(rd, words::remain(self.at(rs1), self.at(rs2))),
             row::FENCE => self.go_on(),
             row::ECALL => Event::Ecall,
             _ => Event::Fault(Sig::of(SIGTRAP)),
@@ -117,9 +133,7 @@ impl Regs {
         requires { NamesRegisters instr }
         ensures { (mem : List ℕ) → HasEffect (branch_effect instr self.old.pc self.old.x mem) result self.old.pc self.old.x mem self.new.pc self.new.x mem }
     {
-        let a = self.x[instr.rs1 as usize];
-        let b = self.x[instr.rs2 as usize];
-        if words::takes(instr.row, a, b) {
+        if words::takes(instr.row, self.at(instr.rs1), self.at(instr.rs2)) {
             self.jump(0, self.pc.wrapping_add(instr.imm))
         } else {
             self.go_on()
@@ -133,7 +147,7 @@ impl Regs {
         requires { NamesRegisters instr }
         ensures { HasEffect (load_effect instr self.old.pc self.old.x mem.now) result self.old.pc self.old.x mem.now self.new.pc self.new.x mem.now }
     {
-        let address = self.x[instr.rs1 as usize].wrapping_add(instr.imm);
+        let address = self.at(instr.rs1).wrapping_add(instr.imm);
         let width = words::load_width(instr.row);
         if address % width != 0 {
             return Event::Fault(Sig::of(SIGBUS));
@@ -151,12 +165,12 @@ impl Regs {
         requires { NamesRegisters instr }
         ensures { HasEffect (store_effect instr self.old.pc self.old.x mem.old) result self.old.pc self.old.x mem.old self.new.pc self.new.x mem.new }
     {
-        let address = self.x[instr.rs1 as usize].wrapping_add(instr.imm);
+        let address = self.at(instr.rs1).wrapping_add(instr.imm);
         let width = words::store_width(instr.row);
         if address % width != 0 {
             return Event::Fault(Sig::of(SIGBUS));
         }
-        if !mem.write(address, width, self.x[instr.rs2 as usize]) {
+        if !mem.write(address, width, self.at(instr.rs2)) {
             return Event::Fault(Sig::of(SIGSEGV));
         }
         self.go_on()
@@ -198,6 +212,15 @@ impl Regs {
     {
         self.pc = self.pc.wrapping_add(4);
         Event::Next
+    }
+
+    /// The value of a register.
+    #[inline(always)]
+    fn at(&self, r: u8) -> u32
+        requires { r < 32 }
+        ensures { result ≡ slice_index self.now.x r }
+    {
+        self.x[r as usize]
     }
 
     /// Writes a register; a write to x0 is lost.

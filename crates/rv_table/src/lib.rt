@@ -3,7 +3,7 @@
 
 pub mod row;
 
-ghost use Rattle.std.specs.Prelude.{ℕ, ◌≡◌, ◌⊎◌, ◌<◌, ◌^◌, IfSome};
+ghost use Rattle.std.specs.Prelude.{ℕ, ◌≡◌, ◌<◌, ◌^◌, IfSome};
 ghost use Rattle.rv_table.specs.Fields.{row_by_fields, with_format};
 ghost use Rattle.rv_table.specs.Table.{NamesRegisters, decoded, immediate_of, sign_extended, R, I, S, B, U, J, Shift};
 
@@ -24,6 +24,7 @@ pub struct Instr {
 /// The instruction that a word stands for, by RV32I and M of the RISC-V manual.
 /// None exactly where the word is illegal: no row of the table matches it.
 #[tactic(auto, using(crate::proofs::Rows::row_is))]
+#[inline(always)]
 pub fn decode(word: u32) -> Option<Instr>
     ensures row { result ≡ decoded word }
     ensures registers { IfSome result NamesRegisters }
@@ -37,14 +38,17 @@ pub fn decode(word: u32) -> Option<Instr>
         0x63 => (branch_row(funct3)?, immediate_b(word)),
         0x03 => (load_row(funct3)?, immediate_i(word)),
         0x23 => (store_row(funct3)?, immediate_s(word)),
-        0x13 => match funct3 {
-            0 => (row::ADDI, immediate_i(word)),
-            2 => (row::SLTI, immediate_i(word)),
-            3 => (row::SLTIU, immediate_i(word)),
-            4 => (row::XORI, immediate_i(word)),
-            6 => (row::ORI, immediate_i(word)),
-            7 => (row::ANDI, immediate_i(word)),
-            _ => (shift_row(funct3, word >> 25)?, shift_amount(word)),
+        0x13 => match (funct3, word >> 25) {
+            (0, _) => (row::ADDI, immediate_i(word)),
+            (2, _) => (row::SLTI, immediate_i(word)),
+            (3, _) => (row::SLTIU, immediate_i(word)),
+            (4, _) => (row::XORI, immediate_i(word)),
+            (6, _) => (row::ORI, immediate_i(word)),
+            (7, _) => (row::ANDI, immediate_i(word)),
+            (1, 0) => (row::SLLI, shift_amount(word)),
+            (5, 0) => (row::SRLI, shift_amount(word)),
+            (5, 0x20) => (row::SRAI, shift_amount(word)),
+            _ => return None,
         },
         0x33 => (register_row(funct3, word >> 25)?, 0),
         0x0f if funct3 == 0 => (row::FENCE, 0),
@@ -100,20 +104,6 @@ fn store_row(funct3: u32) -> Option<u8>
         0 => Some(row::SB),
         1 => Some(row::SH),
         2 => Some(row::SW),
-        _ => None,
-    }
-}
-
-/// The rows of opcode 0x13 that shift by an immediate.
-#[tactic(auto, unfolding(crate::specs::Fields::row_by_fields))]
-fn shift_row(funct3: u32, funct7: u32) -> Option<u8>
-    requires { (funct3 ≡ 1) ⊎ (funct3 ≡ 5) }
-    ensures { row_by_fields 0x13 funct3 funct7 0 ≡ with_format Shift result }
-{
-    match (funct3, funct7) {
-        (1, 0) => Some(row::SLLI),
-        (5, 0) => Some(row::SRLI),
-        (5, 0x20) => Some(row::SRAI),
         _ => None,
     }
 }
