@@ -51,13 +51,17 @@ pub const CLEANUP_RETURN: u32 = 0xffff_ffe0;
 pub const START_RETURN: u32 = 0xffff_ffd0;
 
 const SIGILL: u32 = 4;
+
 const SIGTRAP: u32 = 5;
+
 const SIGBUS: u32 = 7;
+
 const SIGSEGV: u32 = 11;
 
 /// Makes the instruction at pc, by the RISC-V manual. With an event other than Next, registers and
 /// memory are unchanged.
 #[tactic(auto, unfolding(crate::specs::Meaning::effect))]
+#[inline(always)]
 pub fn exec(regs: &mut Regs, mem: &mut Memory) -> Event
     ensures { HasEffect (effect regs.old.pc regs.old.x mem.old) result regs.old.pc regs.old.x mem.old regs.new.pc regs.new.x mem.new }
 {
@@ -84,7 +88,13 @@ impl Regs {
         requires { NamesRegisters instr }
         ensures { HasEffect (effect_of instr self.old.pc self.old.x mem.old) result self.old.pc self.old.x mem.old self.new.pc self.new.x mem.new }
     {
-        let Instr { row, rd, rs1, rs2, imm } = instr;
+        let Instr {
+            row,
+            rd,
+            rs1,
+            rs2,
+            imm,
+        } = instr;
         match row {
             row::LUI => self.write(rd, imm),
             row::AUIPC => self.write(rd, self.pc.wrapping_add(imm)),
