@@ -7,7 +7,7 @@ use rv_table::row;
 
 /// Whether the relation of a branch's row holds.
 #[tactic(auto, unfolding(crate::specs::Meaning::is_taken))]
-pub fn takes(row: u8, a: u32, b: u32) -> bool
+pub fn relation_holds(row: u8, a: u32, b: u32) -> bool
     ensures { result ≡ is_taken row a b }
 {
     match row {
@@ -46,7 +46,7 @@ pub fn store_width(row: u8) -> u32
     }
 }
 
-/// What a row of loads makes of the number that it read.
+/// The word that a row of loads makes of the number that it read.
 #[tactic(auto, unfolding(crate::specs::Meaning::extended, crate::specs::Meaning::width_of_load))]
 pub fn extend(row: u8, number: u32) -> u32
     requires { number < 256 ^ width_of_load row }
@@ -60,14 +60,14 @@ pub fn extend(row: u8, number: u32) -> u32
 }
 
 /// SLT: 1 where a is below b in the signed reading, else 0.
-pub fn less_signed(a: u32, b: u32) -> u32
+pub fn set_less_signed(a: u32, b: u32) -> u32
     ensures { result ≡ flag (is_below_signed a b) }
 {
     u32::from(a.cast_signed() < b.cast_signed())
 }
 
 /// SLTU: 1 where a is below b, else 0.
-pub fn less(a: u32, b: u32) -> u32
+pub fn set_less(a: u32, b: u32) -> u32
     ensures { result ≡ flag (nat_lt a b) }
 {
     u32::from(a < b)
@@ -103,8 +103,8 @@ pub fn multiply_high(a: u32, b: u32) -> u32
     ((u64::from(a) * u64::from(b)) >> 32) as u32
 }
 
-/// DIV: rounds toward zero; all ones for the divisor 0.
-pub fn divide_signed(a: u32, b: u32) -> u32
+/// DIV: rounds toward zero; all ones for the divisor 0, and -2^31 for -2^31 by -1.
+pub fn quotient_signed(a: u32, b: u32) -> u32
     ensures { result ≡ quotient_signed a b }
 {
     if b == 0 {
@@ -117,14 +117,14 @@ pub fn divide_signed(a: u32, b: u32) -> u32
 }
 
 /// DIVU: all ones for the divisor 0.
-pub fn divide(a: u32, b: u32) -> u32
+pub fn quotient(a: u32, b: u32) -> u32
     ensures { result ≡ quotient a b }
 {
     if b == 0 { u32::MAX } else { a / b }
 }
 
-/// REM: the dividend itself for the divisor 0.
-pub fn remain_signed(a: u32, b: u32) -> u32
+/// REM: the dividend itself for the divisor 0, and 0 for -2^31 by -1.
+pub fn remainder_signed(a: u32, b: u32) -> u32
     ensures { result ≡ remainder_signed a b }
 {
     if b == 0 {
@@ -137,7 +137,7 @@ pub fn remain_signed(a: u32, b: u32) -> u32
 }
 
 /// REMU: the dividend itself for the divisor 0.
-pub fn remain(a: u32, b: u32) -> u32
+pub fn remainder(a: u32, b: u32) -> u32
     ensures { result ≡ remainder a b }
 {
     if b == 0 { a } else { a % b }

@@ -1,6 +1,7 @@
 //! The table of RV32IM instructions: which word is which instruction, and what its fields say.
 #![tactic(auto)]
 
+/// The rows' numbers by name.
 pub mod row;
 
 ghost use Rattle.std.specs.Prelude.{ℕ, ◌≡◌, ◌<◌, ◌^◌, IfSome};
