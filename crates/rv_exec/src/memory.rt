@@ -155,3 +155,26 @@ impl Memory {
         self.bytes[at..at + count].fill(0);
     }
 }
+
+#[cfg(test)]
+mod tests {
+    use super::*;
+
+    #[test]
+    fn each_call_once(rt: HostRuntime) {
+        let Ok(mut mem) = Memory::new(rt.alloc(), 65_536) else {
+            panic!(rt; "no memory")
+        };
+        assert_eq!(rt; mem.size(), 65_536);
+        assert!(rt; mem.has(0x1_fffc, 4));
+        assert!(rt; !mem.has(0x1_fffd, 4));
+        assert!(rt; mem.write(0x1_0000, 4, 0x1234_5678));
+        assert_eq!(rt; mem.read(0x1_0001, 2), Some(0x3456));
+        assert!(rt; mem.copy_in(0x1_0002, b"hi"));
+        let mut copy = [0; 4];
+        assert!(rt; mem.copy_out(0x1_0000, &mut copy));
+        assert_eq!(rt; copy, [0x78, 0x56, b'h', b'i']);
+        mem.clear(0x1_0001, 2);
+        assert_eq!(rt; mem.part(0x1_0000, 4), [0x78, 0, 0, b'i'].as_slice());
+    }
+}
