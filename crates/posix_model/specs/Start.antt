@@ -6,7 +6,7 @@ use Rattle.rv_exec.specs.Window.{base}
 use Rattle.posix_model.specs.State.{State, Thread, Registers, Ready, no_thread, none_pending}
 use Rattle.posix_model.specs.Runs.{Moment}
 
--- the return address of a thread's first routine: its return starts the thread's exit (this project's own)
+-- the return address of a thread's first routine: a special address (this project's own)
 abbrev pub start_return : ℕ
 start_return = 0xFFFFFFD0
 

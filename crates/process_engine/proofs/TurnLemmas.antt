@@ -23,10 +23,14 @@ use Rattle.thread_base.specs.Numbers.{IsInScope}
 use Rattle.thread_base.specs.Priority.{tids}
 use Rattle.process_engine.specs.Single.{Single, state_of, moment_of, registers_of, made_of}
 use Rattle.process_engine.specs.Turns.{IsTurn}
-use Rattle.process_engine.specs.Advancing.{CanGo, CanTell, IsCounted, FaultsBy, Advanced, Advances}
+use Rattle.process_engine.specs.Advancing.{CanGo, CanTell, IsInCall, IsCounted, FaultsBy, Advanced, Advances}
 use Rattle.process_engine.specs.declared.moves.Cause.{Cause}
 use Rattle.process_engine.specs.declared.moves.Cause.TheVariants.{Call, Fault, Delivery}
+use Rattle.process_engine.specs.declared.moves.Came.{Came}
 use Rattle.process_engine.specs.declared.moves.Came.TheVariants.{Plain, Told, End}
+use Rattle.process_engine.specs.declared.moves.Standing.{Standing}
+use Rattle.process_engine.specs.declared.moves.Standing.TheVariants.{New, Going, Faulted, Over}
+use Rattle.process_engine.specs.Standings.{last_of, fault_of, over_of, came_of}
 use Rattle.process_engine.specs.declared.Turn.TheVariants.{Quiet, Made as MadeTurn}
 use Rattle.process_engine.proofs.Singles.{registers_are, with_registers, first_is_chosen, none_is_next, fault_is_next}
 
@@ -181,13 +185,36 @@ budget_ends p over fault made = inr (inr (refl, record { used_up = made; tid = 1
 pub counted_settings : (p q : Single) → IsCounted p q → q.settings ≡ p.settings
 counted_settings p q counted = ap (λ (r : Single). r.settings) counted
 
+counted_in_call : (p q : Single) → CanGo p → IsCounted p q → IsInCall q
+counted_in_call p q go counted = record { fault = ap (λ (r : Single). r.fault) counted ∙ go.fault; last = ap (λ (r : Single). r.last) counted }
+
 -- a move that is still to be told can be told
 pub can_tell : (p : Single) (cause : Cause) (q : Single) → Advanced p cause q → CanTell cause q
-can_tell p Call q h = ap (λ (r : Single). r.fault) h.1 ∙ h.0.fault
-can_tell p (Fault sig) q h = (ap (λ (r : Single). r.fault) h.1 ∙ h.0.fault, ap (λ (r : Single). r.over) h.1 ∙ h.0.over)
-can_tell p (Delivery sig) q h = ap (λ (r : Single). r.fault) h.2 ∙ h.1
+can_tell p Call q h = counted_in_call p q h.0 h.1
+can_tell p (Fault sig) q h = (counted_in_call p q h.0 h.1, ap (λ (r : Single). r.over) h.1 ∙ h.0.over)
+can_tell p (Delivery sig) q h = (ap (λ (r : Single). r.fault) h.2 ∙ h.1, ap (λ (r : Single). r.last) h.2 ∙ h.3)
 
 pub same_settings : (p : Single) (cause : Cause) (q : Single) → Advanced p cause q → q.settings ≡ p.settings
 same_settings p Call q h = counted_settings p q h.1
 same_settings p (Fault sig) q h = counted_settings p q h.1
 same_settings p (Delivery sig) q h = ap (λ (r : Single). r.settings) h.2
+
+-- a standing that makes no instruction
+pub waits : (p : Single) (s : Standing) (came : Came) → p.last ≡ last_of s → p.fault ≡ fault_of s → p.over ≡ over_of s → came_of s ≡ Some came → Advances p came p
+waits p New came last fault over e = let x : None ≡ Some came = e in cc
+waits p Going came last fault over e = let x : None ≡ Some came = e in cc
+waits p (Faulted sig) came last fault over e =
+    let same : Told (Delivery sig) ≡ came = (let x : Some (Told (Delivery sig)) ≡ Some came = e in cc) in
+    let here : Advances p (Told (Delivery sig)) p = (over, fault, refl, last) in
+    subst (λ (x : Came). Advances p x p) same here
+waits p (Over ending) came last fault over e =
+    let same : End ending ≡ came = (let x : Some (End ending) ≡ Some came = e in cc) in
+    let here : Advances p (End ending) p = (over_ends p ending over, fault, refl) in
+    subst (λ (x : Came). Advances p x p) same here
+
+-- a standing that goes on
+pub goes : (s : Standing) → came_of s ≡ None → (over_of s ≡ None) × (fault_of s ≡ None)
+goes New e = (refl, refl)
+goes Going e = (refl, refl)
+goes (Faulted sig) e = let x : Some (Told (Delivery sig)) ≡ None = e in cc
+goes (Over ending) e = let x : Some (End ending) ≡ None = e in cc

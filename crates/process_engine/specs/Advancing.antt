@@ -37,7 +37,7 @@ FaultsBy p sig q = ComesTo p (FaultEvent sig) q ⊎ ((which : Special) × ComesT
 abbrev pub Advanced : Single → Cause → Single → Type 0
 Advanced p Call q = CanGo p × IsCounted p q × ComesTo p Ecall q
 Advanced p (Fault sig) q = CanGo p × IsCounted p q × FaultsBy p sig q
-Advanced p (Delivery sig) q = (p.over ≡ None) × (p.fault ≡ Some sig) × (q ≡ p)
+Advanced p (Delivery sig) q = (p.over ≡ None) × (p.fault ≡ Some sig) × (q ≡ p) × (p.last ≡ Some 1)
 
 -- a move without lines was made, one is still to be told, or the run has ended
 abbrev pub Advances : Single → Came → Single → Type 0
@@ -45,8 +45,13 @@ Advances p Plain q = IsTurn p.settings (moment_of p) Quiet (moment_of q) × (q.s
 Advances p (Told cause) q = Advanced p cause q
 Advances p (End ending) q = Ends p.settings (moment_of p) ending × (p.fault ≡ None) × (q ≡ p)
 
+-- an instruction was made, and nothing waits for its delivery
+pub record IsInCall (q : Single) : Type 0 where
+  pub fault : q.fault ≡ None
+  pub last : q.last ≡ Some 1
+
 -- what telling a move needs
 abbrev pub CanTell : Cause → Single → Type 0
-CanTell Call q = q.fault ≡ None
-CanTell (Fault sig) q = (q.fault ≡ None) × (q.over ≡ None)
-CanTell (Delivery sig) q = q.fault ≡ Some sig
+CanTell Call q = IsInCall q
+CanTell (Fault sig) q = IsInCall q × (q.over ≡ None)
+CanTell (Delivery sig) q = (q.fault ≡ Some sig) × (q.last ≡ Some 1)

@@ -1,3 +1,4 @@
 pub mod Single
 pub mod Turns
 pub mod Advancing
+pub mod Standings

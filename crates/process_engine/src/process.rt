@@ -15,10 +15,10 @@ ghost use Rattle.rv_exec.specs.Outcome.{HasEffect};
 ghost use Rattle.trace_text.specs.Output.{IsReadable};
 ghost use Rattle.process_engine.specs.Single.{Single, KeepsRest, state_of, moment_of, registers_of, called_of, made_of};
 ghost use Rattle.process_engine.specs.Turns.{IsTurn, Runs};
-ghost use Rattle.process_engine.specs.Advancing.{CanGo, CanTell, Advanced, Advances};
+ghost use Rattle.process_engine.specs.Advancing.{CanGo, CanTell, IsInCall, Advanced, Advances};
 
 use crate::calls::{Answer, MOST_WRITTEN, answer_registers, output};
-use crate::moves::{Came, Cause};
+use crate::moves::{Came, Cause, Standing};
 use crate::{Done, Turn, WriteFault};
 use elf_image::EntryPoint;
 use posix_model::{Arguments, Ending, Head, Reply, Report, Settings};
@@ -44,22 +44,20 @@ pub struct Process {
     pub(crate) regs: Regs,
     pub(crate) mem: Memory,
     made: u64,
-    last: Option<Tid>,
-    fault: Option<Sig>,
-    pub(crate) over: Option<Ending>,
+    standing: Standing,
     settings: Settings,
 }
 
 impl Model for Process {
-    ghost use Rattle.std.specs.Prelude.{◌≤◌, ◌≡◌, Some, None};
-    ghost use Rattle.posix_model.specs.declared.Ending.{Ending};
+    ghost use Rattle.std.specs.Prelude.{◌≤◌};
     ghost use Rattle.process_engine.specs.Single.{Single};
+    ghost use Rattle.process_engine.specs.Standings.{last_of, fault_of, over_of};
 
     ghost Value = { Single };
 
-    ghost view = { λ p. record { pc = p.regs.pc; x = p.regs.x; memory = p.mem; made = p.made; last = p.last; fault = p.fault; over = p.over; settings = p.settings } };
+    ghost view = { λ p. record { pc = p.regs.pc; x = p.regs.x; memory = p.mem; made = p.made; last = last_of p.standing; fault = fault_of p.standing; over = over_of p.standing; settings = p.settings } };
 
-    ghost invariant = { λ p. (p.made ≤ p.settings.budget) × (p.settings.budget ≤ 1000000000) × ((e : Ending) → p.over ≡ Some e → p.fault ≡ None) };
+    ghost invariant = { λ p. (p.made ≤ p.settings.budget) × (p.settings.budget ≤ 1000000000) };
 }
 
 impl Process {
@@ -84,9 +82,7 @@ impl Process {
             regs: Regs { pc: entry.0, x },
             mem,
             made: 0,
-            last: None,
-            fault: None,
-            over: None,
+            standing: Standing::New,
             settings,
         })
     }
@@ -157,12 +153,12 @@ impl Process {
     /// Ends the process.
     #[tactic(auto, unfolding(crate::specs::Single::state_of))]
     fn exit(&mut self, args: Arguments) -> Answer
-        requires { self.old.fault ≡ None }
+        requires { IsInCall self.old }
         ensures called { called_of self.new result ≡ calls.exit (state_of self.old) 1 args }
         ensures rest { KeepsRest self.old self.new }
         ensures readable { IsReadable result.report self.new.memory }
     {
-        self.over = Some(Ending::Exit(args.a % 256));
+        self.standing = Standing::Over(Ending::Exit(args.a % 256));
         Answer {
             reply: Reply::End,
             report: Report::nothing(),
@@ -172,7 +168,7 @@ impl Process {
     /// Makes the call of a number.
     #[tactic(auto, unfolding(posix_model::specs::Calls::call_row))]
     fn row(&mut self, number: u32, args: Arguments) -> Answer
-        requires { self.old.fault ≡ None }
+        requires { IsInCall self.old }
         ensures called { called_of self.new result ≡ calls.call_row (state_of self.old) 1 number args }
         ensures rest { KeepsRest self.old self.new }
         ensures readable { IsReadable result.report self.new.memory }
@@ -186,7 +182,7 @@ impl Process {
 
     /// Makes the call at which thread 1 stands.
     fn call(&mut self) -> Report
-        requires { self.old.fault ≡ None }
+        requires { IsInCall self.old }
         ensures made { made_of self.new result ≡ calls.call (state_of self.old) 1 (calls.call_number (registers_of self.old)) (calls.arguments (registers_of self.old)) }
         ensures rest { KeepsRest self.old self.new }
         ensures readable { IsReadable result self.new.memory }
@@ -208,14 +204,14 @@ impl Process {
 
     /// Notes the fault of thread 1's instruction, whose signal pends from now on.
     fn note_fault(&mut self, sig: Sig) -> Report
-        requires settled { self.old.fault ≡ None }
+        requires call { IsInCall self.old }
         requires going_on { self.old.over ≡ None }
         ensures made { made_of self.new result ≡ faulted (state_of self.old) 1 sig }
         ensures fault { self.new ≡ record self.old { fault = Some sig } }
         ensures readable { IsReadable result self.new.memory }
         ensures told { result.head ≡ Head.Quiet → ⊥ }
     {
-        self.fault = Some(sig);
+        self.standing = Standing::Faulted(sig);
         Report {
             tid: 1,
             head: Head::Fault(sig),
@@ -225,7 +221,8 @@ impl Process {
 
     /// Delivers the signal of a fault: its default action ends the process.
     fn deliver(&mut self, sig: Sig) -> Report
-        requires { self.old.fault ≡ Some sig }
+        requires fault { self.old.fault ≡ Some sig }
+        requires begun { self.old.last ≡ Some 1 }
         ensures made { made_of self.new result ≡ deliver (state_of self.old) }
         ensures scope { IsInScope sig }
         ensures over { self.new ≡ record self.old { fault = None; over = Some (Ending.Killed sig) } }
@@ -233,8 +230,7 @@ impl Process {
         ensures told { result.head ≡ Head.Quiet → ⊥ }
     {
         let _in_scope = sig.number();
-        self.fault = None;
-        self.over = Some(Ending::Killed(sig));
+        self.standing = Standing::Over(Ending::Killed(sig));
         Report {
             tid: 1,
             head: Head::Deliver {
@@ -248,12 +244,12 @@ impl Process {
 
     /// Makes the instruction at which thread 1 stands, up to what its event asks for.
     fn step(&mut self) -> Event
-        requires { self.old.made < self.old.settings.budget }
+        requires { CanGo self.old }
         ensures effect { HasEffect (effect self.old.pc self.old.x self.old.memory) result self.old.pc self.old.x self.old.memory self.new.pc self.new.x self.new.memory }
         ensures counted { self.new ≡ record self.old { pc = self.new.pc; x = self.new.x; memory = self.new.memory; made = self.old.made + 1; last = Some 1 } }
     {
         self.made += 1;
-        self.last = Some(Tid::at(0));
+        self.standing = Standing::Going;
         exec(&mut self.regs, &mut self.mem)
     }
 
@@ -274,12 +270,8 @@ impl Process {
     fn advance(&mut self) -> Came
         ensures { Advances self.old result self.new }
     {
-        match self.over {
-            Some(ending) => return Came::End(ending),
-            None => {}
-        }
-        match self.fault {
-            Some(sig) => return Came::Told(Cause::Delivery(sig)),
+        match self.standing.came() {
+            Some(came) => return came,
             None => {}
         }
         if self.made == self.settings.budget {
@@ -314,12 +306,21 @@ impl Process {
         }
     }
 
+    /// The thread of the last instruction.
+    fn last(&self) -> Option<Tid>
+        ensures { result ≡ self.now.last }
+    {
+        match self.standing {
+            Standing::New => None,
+            _ => Some(Tid::at(0)),
+        }
+    }
+
     /// How many of each signal still pend, by number: none where no fault waits for its delivery.
     fn left(&self) -> [u64; 32]
         requires { self.now.fault ≡ None }
         ensures { result ≡ left (state_of self.now) }
     {
-        let _settled = &self.fault;
         [0; 32]
     }
 
@@ -328,7 +329,7 @@ impl Process {
     fn put_switch<O: Sink>(&self, before: Option<Tid>, out: &mut O) -> Result<(), SinkFailed>
         ensures { Writes result (O.written out.old) (O.written out.new) (O.faults out.old) (O.faults out.new) (switch_text before self.now.last) }
     {
-        let Some(t) = self.last else {
+        let Some(t) = self.last() else {
             return Ok(());
         };
         if is_thread(before, t) {
@@ -358,7 +359,7 @@ impl Process {
         ensures { Runs self.old.settings (moment_of self.old) result (O.written out.old) (O.written out.new) (O.faults out.old) (O.faults out.new) }
     {
         loop {
-            let before = self.last;
+            let before = self.last();
             match self.advance() {
                 Came::Plain => self.put_switch(before, out)?,
                 Came::Told(cause) => {

@@ -131,6 +131,7 @@ pub fn replay<F: Files, O: Sink, E: Sink>(
     // Where it ran, what came to `out` is the text of one list of moves; that list is a run of the thread
     // machine from the image's start, and the last line names its ending.
     ensures ran { result ≡ Status.Ran → IfSome (F.content files.old (image_name words.now)) (λ image. WritesRunOf (loaded image) (O.written out.old) (O.written out.new)) }
+    ensures accepted { result ≡ Status.Ran → IsJournal (F.content files.old (journal_name words.now)) }
     ensures kept { result ≡ Status.Ran → O.faults out.new ≡ O.faults out.old }
     ensures quiet { result ≡ Status.Ran → err.new ≡ err.old }
 

@@ -1,23 +1,23 @@
 use Rattle.std.proofs.Common.{◌≡◌, ◌∙◌, ap, sym, refl, ℕ, Option}
 use Rattle.process_engine.specs.Single.{Single}
-use Rattle.process_engine.proofs.TurnLemmas.{over_ends, budget_ends}
+use Rattle.process_engine.proofs.TurnLemmas.{waits, goes, budget_ends}
 use Rattle.process_engine.proofs.process.Process.advance.Goals as goal
 
 pub returns-in-Some : goal.returns-in-Some
 returns-in-Some c =
-    let over = ap (λ (p : Single). p.over) (sym c.self.view_is) ∙ c.in-Some.is in (
-      over_ends c.args.self.now c.in-Some.ending over,
-      ap (λ (p : Single). p.fault) (sym c.self.view_is) ∙ c.self.invariant.2 c.in-Some.ending c.in-Some.is,
-      refl,
-    )
+    let v = sym c.self.view_is in
+    waits c.args.self.now c.self.inside.standing c.in-Some.came
+    (ap (λ (p : Single). p.last) v) (ap (λ (p : Single). p.fault) v) (ap (λ (p : Single). p.over) v) (sym c.in-Some.ensures)
 
 pub returns-then-self : goal.returns-then-self
 returns-then-self c =
-    let fault = ap (λ (p : Single). p.fault) (sym c.self.view_is) ∙ c.in-None-fault.is in (
+    let v = sym c.self.view_is in
+    let on = goes c.self.inside.standing (sym c.in-None.ensures) in
+    let fault = ap (λ (p : Single). p.fault) v ∙ on.1 in (
       budget_ends c.args.self.now
-      (ap (λ (p : Single). p.over) (sym c.self.view_is) ∙ c.in-None.is)
+      (ap (λ (p : Single). p.over) v ∙ on.0)
       fault
-      (ap (λ (p : Single). p.made) (sym c.self.view_is) ∙ c.if-self.true ∙ ap (λ (p : Single). p.settings.budget) c.self.view_is),
+      (ap (λ (p : Single). p.made) v ∙ c.if-self.true ∙ ap (λ (p : Single). p.settings.budget) c.self.view_is),
       fault,
       refl,
     )

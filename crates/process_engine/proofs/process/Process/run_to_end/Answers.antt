@@ -15,7 +15,7 @@ loop-self-preserved-in-Continue-1 g c =
     let now : Moment = moment_of c.loop-self.self in
     let new : Moment = moment_of c.advance.new.self in (
       c.in-Plain.ensures.1 ∙ c.loop-self.invariant.0,
-      quiet_more settings (moment_of c.args.self.now) now new _ _ _ _ _ _ c.loop-self.invariant.1 c.self.inside.last (ap (λ (p : Single). p.last) c.self.view_is)
+      quiet_more settings (moment_of c.args.self.now) now new _ _ _ _ _ _ c.loop-self.invariant.1 c.last-before.result c.last-before.ensures
       (same_turn c.loop-self.self.settings settings now new Quiet c.loop-self.invariant.0 c.in-Plain.ensures.0) c.in_ok-put_switch-in-Plain.ensures,
     )
 
@@ -25,7 +25,7 @@ returns-in_err-put_switch-in-Plain g c =
     let now : Moment = moment_of c.loop-self.self in
     let new : Moment = moment_of c.advance.new.self in
     runs_err _ _ c.from_residual.result _ _ _ _ c.from_residual.ensures.0
-    (quiet_fails settings (moment_of c.args.self.now) now new _ _ _ _ _ _ c.loop-self.invariant.1 c.self.inside.last (ap (λ (p : Single). p.last) c.self.view_is)
+    (quiet_fails settings (moment_of c.args.self.now) now new _ _ _ _ _ _ c.loop-self.invariant.1 c.last-before.result c.last-before.ensures
     (same_turn c.loop-self.self.settings settings now new Quiet c.loop-self.invariant.0 c.in-Plain.ensures.0) c.in_err-put_switch-in-Plain.ensures)
 
 pub tell-report-requires : goal.tell-report-requires
@@ -40,7 +40,7 @@ loop-self-preserved g c =
     let now : Moment = moment_of c.loop-self.self in
     let new : Moment = moment_of c.tell-report.new.self in (
       c.tell-report.ensures.settings ∙ same_settings c.loop-self.self c.in-Told.cause c.advance.new.self c.in-Told.ensures ∙ c.loop-self.invariant.0,
-      made_more settings (moment_of c.args.self.now) now new _ _ _ _ _ _ c.loop-self.invariant.1 c.self.inside.last (ap (λ (p : Single). p.last) c.self.view_is) c.tell-report.result
+      made_more settings (moment_of c.args.self.now) now new _ _ _ _ _ _ c.loop-self.invariant.1 c.last-before.result c.last-before.ensures c.tell-report.result
       (same_turn c.loop-self.self.settings settings now new (Made c.tell-report.result) c.loop-self.invariant.0 (c.tell-report.ensures.turn c.loop-self.self c.in-Told.ensures)) c.in_ok-put_made-in-Told.ensures,
     )
 
@@ -50,7 +50,7 @@ returns-in_err-put_made-in-Told g c =
     let now : Moment = moment_of c.loop-self.self in
     let new : Moment = moment_of c.tell-report.new.self in
     runs_err _ _ c.from_residual-in_err-put_made-in-Told.result _ _ _ _ c.from_residual-in_err-put_made-in-Told.ensures.0
-    (made_fails settings (moment_of c.args.self.now) now new _ _ _ _ _ _ c.loop-self.invariant.1 c.self.inside.last (ap (λ (p : Single). p.last) c.self.view_is) c.tell-report.result
+    (made_fails settings (moment_of c.args.self.now) now new _ _ _ _ _ _ c.loop-self.invariant.1 c.last-before.result c.last-before.ensures c.tell-report.result
     (same_turn c.loop-self.self.settings settings now new (Made c.tell-report.result) c.loop-self.invariant.0 (c.tell-report.ensures.turn c.loop-self.self c.in-Told.ensures)) c.in_err-put_made-in-Told.ensures)
 
 pub returns-in_err-put_end-in-End : goal.returns-in_err-put_end-in-End
