@@ -57,6 +57,7 @@ fn sheet_bytes(alloc: Global, code: &[u32]) -> Result<Vec<u8>, AllocError>
 pub fn sheet(alloc: Global, code: &[u32]) -> Result<Vec<u8>, NoMemory>
     requires { length code.now ≤ 10000 }
     ensures bytes { IfOk result (λ v. v.items ≡ sheet_bytes code.now) }
+    ensures image { IfOk result (λ v. IsImageWhereRoom code.now v.items) }
 {
     match sheet_bytes(alloc, code) {
         Ok(file) => Ok(file),
