@@ -14,7 +14,7 @@ use Rattle.elf_image.specs.declared.refusal.ImageRefusal.{ImageRefusal}
 use Rattle.elf_image.specs.declared.refusal.ImageRefusal.TheVariants.{TooLong, Short, Magic, Class, Order, Version, FileType, Machine, Flags, HeaderSize, SegmentCount, TableOutOfFile, Dynamic, SegmentOutOfFile, SizeAboveMemory, OutsideWindow, Entry}
 use Rattle.elf_image.specs.Layout.{half_at, word_at, ei_class, ei_data, ei_version, e_type, e_machine, e_version, e_entry, e_flags, e_phoff, e_phentsize, e_phnum, table_end, segment_at, segments_from, segments_of, is_loaded, covers, byte_in, byte_of, start_byte, IsStart}
 use Rattle.elf_image.specs.Refusal.{when, magic, identity_refusal, machine_refusal, table_refusal, segment_refusal, entry_refusal, first_refusal, has_headers}
-use Rattle.workload_gen.specs.Sheet.{word, headers_size, code_address, file_header, program_header, sheet_bytes, HoldsWords, IsImageOf, IsImageWhereRoom}
+use Rattle.workload_gen.specs.Sheet.{word, headers_size, code_address, file_header, program_header, sheet_bytes, HoldsWords, IsImageOf, IsImageEverywhere}
 
 -- the sheet's one segment: the whole file of this size
 abbrev whole : ℕ → Segment
@@ -124,7 +124,7 @@ number-same : (xs ys : List ℕ) (at bound : ℕ) → ((k : ℕ) → k < bound �
     → little_number 4 (drop at xs) ≡ little_number 4 (drop at ys)
 number-same xs ys at bound same inside =
     let byte : (i : ℕ) → i < 4 → get_or (drop at xs) i 0 ≡ get_or (drop at ys) i 0 =
-        λ i few. get_or-drop at xs i 0 ∙ same (at + i) (omega arith) ∙ sym (get_or-drop at ys i 0) in
+    λ i few. get_or-drop at xs i 0 ∙ same (at + i) (omega arith) ∙ sym (get_or-drop at ys i 0) in
     rw (byte 0 (omega arith), byte 1 (omega arith), byte 2 (omega arith), byte 3 (omega arith)) refl
 
 -- the number at a word's place is the word
@@ -149,7 +149,7 @@ code-stands : (code : List ℕ) (n size : ℕ) (mem : List ℕ) → n ≡ header
 code-stands code n size mem long fits room words start k below =
     let bytes = with_headers n (flat_map word code) in
     let start' : IsStart bytes (whole n ∷ []) size mem =
-        subst (λ (s : List Segment). IsStart bytes s size mem) (segments-headers n (flat_map word code) fits) start in
+    subst (λ (s : List Segment). IsStart bytes s size mem) (segments-headers n (flat_map word code) fits) start in
     let at : (code_address + 4 * k) - base ≡ headers_size + 4 * k = omega arith in
     ap (λ a. little_number 4 (drop a mem)) at
     ∙ number-same mem bytes (headers_size + 4 * k) n (λ i low. memory-whole bytes mem n size i room start' low) (omega arith)
@@ -160,16 +160,25 @@ code-stands code n size mem long fits room words start k below =
 size-large : (size : ℕ) → IsMemorySize size → 65536 ≤ size
 size-large size known = grind (arith, nat_tests)
 
--- a sheet is an image that enters at its code, for each window that has room for it
-pub sheet_image : (code : List ℕ) → length code ≤ 10000 → ((k : ℕ) → slice_index code k < 2 ^ 32) → IsImageWhereRoom code (sheet_bytes code)
+-- a sheet has its headers, and four bytes a word
+pub length-sheet : (code : List ℕ) → length (sheet_bytes code) ≡ headers_size + 4 * length code
 unfolding sheet_bytes
-sheet_image code few words size known room =
+length-sheet code =
+    let len = length-words code in
+    let long = length-headers (headers_size + 4 * length code) (flat_map word code) in
+    omega arith
+
+-- a sheet is an image that enters at its code, for each window: the smallest has room for the most words
+pub sheet-image : (code : List ℕ) → length code ≤ 10000 → ((k : ℕ) → slice_index code k < 2 ^ 32)
+    → IsImageEverywhere code (sheet_bytes code)
+unfolding sheet_bytes
+sheet-image code few words size known =
     let n = headers_size + 4 * length code in
     let rest = flat_map word code in
     let len = length-words code in
-    let long = length-headers n rest in
+    let large = size-large size known in
     record {
-      accepted = accepted-headers n rest size (omega arith) (omega arith) (omega arith) (size-large size known);
+      accepted = accepted-headers n rest size (omega arith) (omega arith) (omega arith) large;
       entry = entry-headers n rest;
       code_stands = λ mem start. code-stands code n size mem refl (omega arith) (omega arith) words start;
     }

@@ -67,6 +67,6 @@ pub record IsImageOf (code bytes : List ℕ) (size : ℕ) : Type 0 where
   pub entry : e_entry bytes ≡ code_address
   pub code_stands : (mem : List ℕ) → IsStart bytes (segments_of bytes) size mem → HoldsWords code_address code mem
 
--- they are such an image for each window that has room for them
-abbrev pub IsImageWhereRoom : List ℕ → List ℕ → Type 0
-IsImageWhereRoom code bytes = (size : ℕ) → IsMemorySize size → length bytes ≤ size → IsImageOf code bytes size
+-- they are such an image for each size that a window may have
+abbrev pub IsImageEverywhere : List ℕ → List ℕ → Type 0
+IsImageEverywhere code bytes = (size : ℕ) → IsMemorySize size → IsImageOf code bytes size

@@ -6,3 +6,6 @@ mod words;
 
 pub use image::sheet;
 pub use words::sys_words;
+
+#[cfg(test)]
+mod tests;
