@@ -1,11 +1,10 @@
 -- What the words of a setting decode to.
-use Rattle.std.proofs.Common.{◌≡◌, ℕ, ◌+◌, ◌*◌, ◌/◌, ◌%◌, ◌^◌, ◌-◌, ◌<◌, Option, Some, refl, ap, ◌∙◌, arith}
+use Rattle.std.proofs.Common.{◌≡◌, ℕ, ◌+◌, ◌*◌, ◌/◌, ◌%◌, ◌^◌, ◌<◌, Some, refl, ap, ◌∙◌, arith}
 use Rattle.std.specs.Prelude.{bit_and}
 use Rattle.std.proofs.lemmas.Nat.{and_mask}
 use Rattle.std.proofs.lemmas.Bool.Decides.{nat_tests}
-use Rattle.rv_table.specs.declared.Instr.{Instr}
-use Rattle.rv_table.specs.Names.{LUI, ADDI, ECALL}
-use Rattle.rv_table.specs.Table.{Format, U, I, row_of, immediate_of, decoded, instr_from, with_immediate, bits_at, sign_extended}
+use Rattle.rv_table.specs.Names.{LUI, ADDI}
+use Rattle.rv_table.specs.Table.{Format, U, I, row_of, immediate_of, decoded, bits_at, sign_extended}
 use Rattle.rv_table.specs.Fields.{row_by_fields}
 use Rattle.rv_table.proofs.Rows.{row_is}
 use Rattle.workload_gen.specs.Words.{lui, addi, ecall, upper_part, lower_part, SetsRegister, IsEcall}

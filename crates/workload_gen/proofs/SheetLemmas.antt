@@ -1,20 +1,18 @@
 -- Why a sheet is an image, and what its start memory holds.
-use Rattle.std.proofs.Common.{◌≡◌, ℕ, zero, suc, ◌+◌, ◌*◌, ◌-◌, ◌/◌, ◌%◌, ◌^◌, ◌<◌, ◌≤◌, ◌&&◌, ◌||◌, Bool, true, false, List, [], ◌∷◌, ◌++◌, length, take, drop, get_or, cond, eqb, leb, ltb, Option, Some, None, refl, sym, ap, subst, ◌∙◌, arith, IsTrue}
-use Rattle.std.specs.Prelude.{bit_and, nat_eq, not, reverse, find, slice_index}
+use Rattle.std.proofs.Common.{◌≡◌, ℕ, zero, suc, ◌+◌, ◌*◌, ◌-◌, ◌^◌, ◌<◌, ◌≤◌, true, false, List, [], ◌∷◌, ◌++◌, length, drop, get_or, eqb, leb, ltb, None, refl, sym, ap, subst, ◌∙◌, arith}
+use Rattle.std.specs.Prelude.{nat_eq, slice_index}
 use Rattle.std.specs.List.{flat_map, starts_with}
 use Rattle.std.proofs.lemmas.Bool.{le-ltb, lt-ltb, le-leb}
 use Rattle.std.proofs.lemmas.Bool.Decides.{nat_tests}
 use Rattle.std.proofs.lemmas.List.{get_or-drop}
 use Rattle.std.proofs.Math.Seq.{drop-append-add}
-use Rattle.byteorder.specs.Endian.{little_number, little_bytes}
+use Rattle.byteorder.specs.Endian.{little_number}
 use Rattle.byteorder.specs.Numbers.{little_number-reads_back}
-use Rattle.rv_exec.specs.Window.{base, is_inside, number_at, IsMemorySize}
+use Rattle.rv_exec.specs.Window.{base, IsMemorySize}
 use Rattle.elf_image.specs.declared.layout.Segment.{Segment}
-use Rattle.elf_image.specs.declared.refusal.ImageRefusal.{ImageRefusal}
-use Rattle.elf_image.specs.declared.refusal.ImageRefusal.TheVariants.{TooLong, Short, Magic, Class, Order, Version, FileType, Machine, Flags, HeaderSize, SegmentCount, TableOutOfFile, Dynamic, SegmentOutOfFile, SizeAboveMemory, OutsideWindow, Entry}
-use Rattle.elf_image.specs.Layout.{half_at, word_at, ei_class, ei_data, ei_version, e_type, e_machine, e_version, e_entry, e_flags, e_phoff, e_phentsize, e_phnum, table_end, segment_at, segments_from, segments_of, is_loaded, covers, byte_in, byte_of, start_byte, IsStart}
-use Rattle.elf_image.specs.Refusal.{when, magic, identity_refusal, machine_refusal, table_refusal, segment_refusal, entry_refusal, first_refusal, has_headers}
-use Rattle.workload_gen.specs.Sheet.{word, headers_size, code_address, file_header, program_header, sheet_bytes, HoldsWords, IsImageOf, IsImageEverywhere}
+use Rattle.elf_image.specs.Layout.{ei_class, ei_data, ei_version, e_type, e_machine, e_version, e_entry, e_flags, e_phoff, e_phentsize, e_phnum, segment_at, segments_of, start_byte, IsStart}
+use Rattle.elf_image.specs.Refusal.{magic, identity_refusal, machine_refusal, table_refusal, segment_refusal, entry_refusal, first_refusal}
+use Rattle.workload_gen.specs.Sheet.{word, headers_size, code_address, file_header, program_header, sheet_bytes, HoldsWords, IsImageEverywhere}
 
 -- the sheet's one segment: the whole file of this size
 abbrev whole : ℕ → Segment

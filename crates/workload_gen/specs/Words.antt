@@ -1,5 +1,5 @@
 -- The words of a system call in a program's text: RV32I of the RISC-V manual, in an order of this project's own.
-use Rattle.std.specs.Prelude.{ℕ, ◌+◌, ◌*◌, ◌/◌, ◌%◌, ◌^◌, ◌≡◌, ◌∷◌, ◌++◌, List, [], Option, Some, option_map, slice_index}
+use Rattle.std.specs.Prelude.{ℕ, ◌+◌, ◌*◌, ◌/◌, ◌%◌, ◌^◌, ◌≡◌, ◌∷◌, ◌++◌, List, [], Some, option_map, slice_index}
 use Rattle.rv_table.specs.declared.Instr.{Instr}
 use Rattle.rv_table.specs.Names.{LUI, ADDI, ECALL}
 use Rattle.rv_table.specs.Table.{decoded}
@@ -16,12 +16,11 @@ addi rd rs1 lower = lower * 2 ^ 20 + (rs1 * 2 ^ 15 + (rd * 2 ^ 7 + 0x13))
 abbrev pub ecall : ℕ
 ecall = 0x00000073
 
--- A value is 4096 * upper + lower modulo 2^32, with lower from -2048 to 2047.
--- the lower part, by the 12 bits of its two's complement
+-- the lower part of a value, which is from -2048 to 2047, by the 12 bits of its two's complement
 abbrev pub lower_part : ℕ → ℕ
 lower_part value = value % 2 ^ 12
 
--- the upper part, of 20 bits: rounded up where the lower part is negative
+-- the upper part of 20 bits, so that 4096 * upper + lower is the value modulo 2^32
 abbrev pub upper_part : ℕ → ℕ
 upper_part value = (value + 2 ^ 11) / 2 ^ 12 % 2 ^ 20
 

@@ -4,7 +4,7 @@ use rv_exec::Memory;
 use std::alloc::Global;
 use std::test::Fail;
 
-/// The headers of the smallest image in use, which has 122 bytes, and the nine words of its program.
+/// The headers of an image of 122 bytes, and the nine words of its program.
 const HEADERS: [u8; 84] = *b"\x7fELF\x01\x01\x01\0\0\0\0\0\0\0\0\0\
     \x02\0\xf3\0\x01\0\0\0\x54\0\x01\0\x34\0\0\0\0\0\0\0\0\0\0\0\x34\0\x20\0\x01\0\0\0\0\0\0\0\
     \x01\0\0\0\0\0\0\0\0\0\x01\0\0\0\x01\0\x7a\0\0\0\x7a\0\0\0\x05\0\0\0\0\x10\0\0";

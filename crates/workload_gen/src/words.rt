@@ -1,16 +1,19 @@
 ghost use Rattle.std.specs.Prelude.{◌≡◌, ◌<◌, ◌^◌, slice_index};
 ghost use Rattle.workload_gen.specs.Words.{lui, addi, upper_part, lower_part, call_words, SetsRegister, IsEcall};
 
-/// The registers of a call's arguments, x10 to x13.
+/// The register of a call's first argument.
 const A0: u32 = 10;
 
+/// The register of its second argument.
 const A1: u32 = 11;
 
+/// The register of its third argument.
 const A2: u32 = 12;
 
+/// The register of its fourth argument.
 const A3: u32 = 13;
 
-/// The register of a call's number, x17.
+/// The register of its number.
 const A7: u32 = 17;
 
 /// The word of `ecall`.
@@ -40,7 +43,7 @@ fn upper_part(value: u32) -> u32
     ensures part { result ≡ upper_part value }
     ensures bits { result < 2 ^ 20 }
 {
-    // `addi` subtracts where bit 11 of the value is set
+    // one more where bit 11 of the value is set, since `addi` subtracts there
     value.wrapping_add(0x800) >> 12
 }
 

@@ -1,6 +1,6 @@
 -- The file is the sheet's bytes: so many, and such an image.
-use Rattle.std.proofs.Common.{◌≡◌, ℕ, List, length, sym, ap, subst, ◌∙◌, arith}
-use Rattle.workload_gen.specs.Sheet.{sheet_bytes, IsImageEverywhere}
+use Rattle.std.proofs.Common.{ℕ, List, length, sym, ap, subst, arith}
+use Rattle.workload_gen.specs.Sheet.{IsImageEverywhere}
 use Rattle.workload_gen.proofs.SheetLemmas.{length-sheet, sheet-image}
 use Rattle.workload_gen.proofs.image.sheet.Goals as goal
 
