@@ -3,6 +3,7 @@ use Rattle.std.proofs.Common.{◌≡◌, ℕ, ◌+◌, ◌*◌, ◌/◌, ◌%◌
 use Rattle.std.specs.Prelude.{bit_and}
 use Rattle.std.proofs.lemmas.Nat.{and_mask}
 use Rattle.std.proofs.lemmas.Bool.Decides.{nat_tests}
+use Rattle.rv_table.specs.declared.Instr.{Instr}
 use Rattle.rv_table.specs.Names.{LUI, ADDI}
 use Rattle.rv_table.specs.Table.{Format, U, I, row_of, immediate_of, decoded, bits_at, sign_extended}
 use Rattle.rv_table.specs.Fields.{row_by_fields}
@@ -31,9 +32,17 @@ row_of-addi w fits opcode funct3 =
     ∙ (ap (λ f. row_by_fields 0x13 f (w / 2 ^ 25) w) (and_mask (w / 2 ^ 12) 3 ∙ funct3)
     ∙ row-addi (w / 2 ^ 25) w))
 
--- a word of a row, with the immediate of the row's format
-decoded-row : (w row : ℕ) (format : Format) → row_of w ≡ Some (row, format)
-    → decoded w ≡ Some record { row = row; rd = bits_at w 7 5; rs1 = bits_at w 15 5; rs2 = bits_at w 20 5; imm = immediate_of format w }
+-- the instruction of a word of a row, with the immediate of the row's format
+abbrev instr : ℕ → ℕ → Format → Instr
+instr w row format = record {
+  row = row;
+  rd = bits_at w 7 5;
+  rs1 = bits_at w 15 5;
+  rs2 = bits_at w 20 5;
+  imm = immediate_of format w;
+}
+
+decoded-row : (w row : ℕ) (format : Format) → row_of w ≡ Some (row, format) → decoded w ≡ Some (instr w row format)
 decoded-row w row format is = rw is refl
 
 -- the immediates
@@ -62,8 +71,8 @@ setting_sets register value named fits =
     let upper = upper-lui register (upper_part value) named (omega arith) in
     let lower = lower-addi register register (lower_part value) named named (omega arith) in
     record {
-      upper = record { row = LUI; rd = bits_at first 7 5; rs1 = bits_at first 15 5; rs2 = bits_at first 20 5; imm = immediate_of U first };
-      lower = record { row = ADDI; rd = bits_at second 7 5; rs1 = bits_at second 15 5; rs2 = bits_at second 20 5; imm = immediate_of I second };
+      upper = instr first LUI U;
+      lower = instr second ADDI I;
       first_is = decoded-row first LUI U (row_of-lui first (omega arith) (omega arith));
       second_is = decoded-row second ADDI I (row_of-addi second (omega arith) (omega arith) (omega arith));
       lui = refl;

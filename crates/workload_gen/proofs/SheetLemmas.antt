@@ -28,7 +28,8 @@ identity-none bytes short long is_magic class order version file_version =
     let not_short = le-ltb (length bytes) 52 long in
     rw (not_too_long, not_short, is_magic, class, order, version, file_version) refl
 
-machine-none : (bytes : List ℕ) → e_type bytes ≡ 2 → e_machine bytes ≡ 243 → e_flags bytes ≡ 0 → machine_refusal bytes ≡ None
+machine-none : (bytes : List ℕ) → e_type bytes ≡ 2 → e_machine bytes ≡ 243 → e_flags bytes ≡ 0
+    → machine_refusal bytes ≡ None
 unfolding machine_refusal
 machine-none bytes type machine flags = rw (type, machine, flags) refl
 
@@ -67,7 +68,8 @@ module _ (n : ℕ) (rest : List ℕ) where
 
   identity-headers : length (with_headers n rest) ≤ 16777216 → identity_refusal (with_headers n rest) ≡ None
   unfolding file_header program_header
-  identity-headers short = identity-none (with_headers n rest) short (omega (arith, length-headers)) refl refl refl refl refl
+  identity-headers short =
+      identity-none (with_headers n rest) short (omega (arith, length-headers)) refl refl refl refl refl
 
   machine-headers : machine_refusal (with_headers n rest) ≡ None
   unfolding file_header program_header
@@ -118,7 +120,8 @@ memory-whole : (bytes mem : List ℕ) (n size k : ℕ) → n ≤ size → IsStar
 memory-whole bytes mem n size k room start below = start.each k (omega arith) ∙ start-whole bytes n k below
 
 -- lists with the same bytes below a bound have the same numbers there
-number-same : (xs ys : List ℕ) (at bound : ℕ) → ((k : ℕ) → k < bound → slice_index xs k ≡ slice_index ys k) → at + 4 ≤ bound
+number-same : (xs ys : List ℕ) (at bound : ℕ) → ((k : ℕ) → k < bound → slice_index xs k ≡ slice_index ys k)
+    → at + 4 ≤ bound
     → little_number 4 (drop at xs) ≡ little_number 4 (drop at ys)
 number-same xs ys at bound same inside =
     let byte : (i : ℕ) → i < 4 → get_or (drop at xs) i 0 ≡ get_or (drop at ys) i 0 =
@@ -150,7 +153,8 @@ code-stands code n size mem long fits room words start k below =
     subst (λ (s : List Segment). IsStart bytes s size mem) (segments-headers n (flat_map word code) fits) start in
     let at : (code_address + 4 * k) - base ≡ headers_size + 4 * k = omega arith in
     ap (λ a. little_number 4 (drop a mem)) at
-    ∙ number-same mem bytes (headers_size + 4 * k) n (λ i low. memory-whole bytes mem n size i room start' low) (omega arith)
+    ∙ number-same mem bytes (headers_size + 4 * k) n
+    (λ i low. memory-whole bytes mem n size i room start' low) (omega arith)
     ∙ ap (little_number 4) (drop-headers n (flat_map word code) (4 * k))
     ∙ words-number code k below (words k)
 

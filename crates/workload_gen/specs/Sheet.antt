@@ -1,4 +1,4 @@
--- A sheet: the smallest ELF file for RV32IM that holds given code (System V ABI, ELF32; its shape is this project's own).
+-- A sheet: a small ELF file for RV32IM that holds given code (System V ABI, ELF32; its shape is this project's own).
 use Rattle.std.specs.Prelude.{ℕ, ◌+◌, ◌*◌, ◌≡◌, ◌<◌, ◌∷◌, ◌++◌, List, [], None, length, replicate, slice_index}
 use Rattle.std.specs.List.{flat_map}
 use Rattle.byteorder.specs.Endian.{little_bytes}
