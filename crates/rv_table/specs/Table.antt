@@ -1,6 +1,6 @@
 -- The table of instructions: RV32I and the M extension of the RISC-V manual.
 -- A word is compared as a whole with each row, under the row's mask.
-use Rattle.std.specs.Prelude.{ℕ, ◌+◌, ◌*◌, ◌/◌, ◌%◌, ◌^◌, ◌-◌, ◌<◌, ◌==◌, ◌∷◌, List, [], Option, Some, None, bit_and, if◌then◌else◌, nat_lt}
+use Rattle.std.specs.Prelude.{ℕ, ◌+◌, ◌*◌, ◌/◌, ◌%◌, ◌^◌, ◌-◌, ◌<◌, ◌==◌, ◌∷◌, List, [], Option, Some, None, Bool, bit_and, if◌then◌else◌, nat_lt}
 use Rattle.rv_table.specs.declared.Instr.{Instr}
 use Rattle.rv_table.specs.Names.{LUI, AUIPC, JAL, JALR, BEQ, BNE, BLT, BGE, BLTU, BGEU, LB, LH, LW, LBU, LHU, SB, SH, SW, ADDI, SLTI, SLTIU, XORI, ORI, ANDI, SLLI, SRLI, SRAI, ADD, SLL, SLT, SLTU, XOR, SRL, OR, AND, SUB, SRA, MUL, MULH, MULHSU, MULHU, DIV, DIVU, REM, REMU, FENCE, ECALL, EBREAK}
 
@@ -92,13 +92,17 @@ rows =
     ∷ row EBREAK (Whole 0x00100073) R
     ∷ []
 
+-- a word matches a pattern: under the mask it has the value
+abbrev pub matches : Pattern → ℕ → Bool
+matches pattern word = bit_and word (mask_of pattern) == value_of pattern
+
 -- number and format of the first of these rows that a word matches
 abbrev pub row_among : List Row → ℕ → Option (ℕ × Format)
 row_among [] word = None
-row_among (r ∷ rs) word =
-    if bit_and word (mask_of r.pattern) == value_of r.pattern then Some (r.number, r.format) else row_among rs word
+row_among (r ∷ rs) word = if matches r.pattern word then Some (r.number, r.format) else row_among rs word
 
 -- number and format of the row of a word, which is illegal where there is none
+-- (no word matches two rows, as proofs/OneRow shows)
 unfoldable pub row_of : ℕ → Option (ℕ × Format)
 row_of word = row_among rows word
 
