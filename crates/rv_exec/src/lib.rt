@@ -87,7 +87,7 @@ pub fn exec(regs: &mut Regs, mem: &mut Memory) -> Event
 impl Regs {
     /// Makes an instruction that was fetched and decoded. One flat match over the rows, so that a plain
     /// instruction costs one jump.
-    #[tactic(auto, unfolding(crate::specs::Meaning::effect_of, crate::specs::Meaning::computed, crate::specs::Meaning::computed_with_immediate))]
+    #[tactic(auto, unfolding(crate::specs::Meaning::effect_of))]
     #[inline(always)]
     fn make(&mut self, instr: Instr, mem: &mut Memory) -> Event
         requires { NamesRegisters instr }

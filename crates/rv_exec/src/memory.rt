@@ -102,7 +102,8 @@ impl Memory {
     /// False exactly where the slice is not empty and a byte is outside; then nothing changes.
     pub fn copy_in(&mut self, addr: u32, bytes: &[u8]) -> bool
         ensures fits { result ≡ fits (length self.old) addr (length bytes.now) }
-        ensures written { 0 < length bytes.now → IsTrue (is_inside (length self.old) addr (length bytes.now)) → self.new ≡ with_bytes self.old addr bytes.now }
+        ensures written { 0 < length bytes.now → IsTrue (is_inside (length self.old) addr (length bytes.now))
+            → self.new ≡ with_bytes self.old addr bytes.now }
         ensures empty { length bytes.now ≡ 0 → self.new ≡ self.old }
         ensures refused { OnFalse result (self.new ≡ self.old) }
     {
@@ -121,7 +122,8 @@ impl Memory {
     /// False exactly where the slice is not empty and a byte is outside; then it is as before.
     pub fn copy_out(&self, addr: u32, into: &mut [u8]) -> bool
         ensures fits { result ≡ fits (length self.now) addr (length into.old) }
-        ensures copied { 0 < length into.old → IsTrue (is_inside (length self.now) addr (length into.old)) → into.new ≡ bytes_at self.now addr (length into.old) }
+        ensures copied { 0 < length into.old → IsTrue (is_inside (length self.now) addr (length into.old))
+            → into.new ≡ bytes_at self.now addr (length into.old) }
         ensures empty { length into.old ≡ 0 → into.new ≡ into.old }
         ensures refused { OnFalse result (into.new ≡ into.old) }
     {

@@ -1,9 +1,10 @@
 -- A word matches one row of the table at most.
-use Rattle.std.proofs.Common.{◌≡◌, ℕ, ◌+◌, ◌≤◌, Bool, true, false, cond, eqb, not, ◌&&◌, List, [], ◌∷◌, length, refl, sym, ap, ◌∙◌, inl, inr, arith}
+use Rattle.std.proofs.Common.{◌≡◌, ℕ, ◌≤◌, Bool, true, false, eqb, not, ◌&&◌, List, [], ◌∷◌, length, refl, sym, ap, ◌∙◌, inl, inr, arith}
 use Rattle.std.specs.Prelude.{bit_and, filter}
 use Rattle.std.proofs.lemmas.Bool.{eqb-true, eq-eqb, cases_Bool}
 use Rattle.std.proofs.lemmas.Nat.{and_assoc, and_comm}
 use Rattle.rv_table.specs.Table.{Pattern, Row, rows, mask_of, value_of, matches}
+use Rattle.rv_table.proofs.Rows.{both_true}
 
 -- two patterns differ in a bit that both fix
 abbrev is_apart : Pattern → Pattern → Bool
@@ -19,10 +20,6 @@ abbrev are_apart : List Row → Bool
 are_apart [] = true
 are_apart (r ∷ rs) = is_apart_from r.pattern rs && are_apart rs
 
-both_true : (a b : Bool) → (a && b) ≡ true → (a ≡ true) × (b ≡ true)
-both_true true b e = (refl, e)
-both_true false b e = cc
-
 -- a word has no two patterns that are apart
 not_both : (p q : Pattern) (w : ℕ) → is_apart p q ≡ true → matches p w ≡ true → matches q w ≡ false
 not_both p q w apart has_p =
@@ -31,16 +28,18 @@ not_both p q w apart has_p =
           let wp : bit_and w (mask_of p) ≡ value_of p = eqb-true (bit_and w (mask_of p)) (value_of p) has_p in
           let wq : bit_and w (mask_of q) ≡ value_of q = eqb-true (bit_and w (mask_of q)) (value_of q) has_q in
           let same : bit_and (value_of p) (mask_of q) ≡ bit_and (value_of q) (mask_of p) =
-            ap (λ v. bit_and v (mask_of q)) (sym wp)
-            ∙ (and_assoc (mask_of q) w (mask_of p)
-            ∙ (ap (λ v. bit_and w v) (and_comm (mask_of p) (mask_of q))
-            ∙ (sym (and_assoc (mask_of p) w (mask_of q))
-            ∙ ap (λ v. bit_and v (mask_of p)) wq))) in
-          let e : not true ≡ true = rw (eq-eqb (bit_and (value_of p) (mask_of q)) (bit_and (value_of q) (mask_of p)) same) at apart in
+          ap (λ v. bit_and v (mask_of q)) (sym wp)
+          ∙ (and_assoc (mask_of q) w (mask_of p)
+          ∙ (ap (λ v. bit_and w v) (and_comm (mask_of p) (mask_of q))
+          ∙ (sym (and_assoc (mask_of p) w (mask_of q))
+          ∙ ap (λ v. bit_and v (mask_of p)) wq))) in
+          let test = eq-eqb (bit_and (value_of p) (mask_of q)) (bit_and (value_of q) (mask_of p)) same in
+          let e : not true ≡ true = rw test at apart in
           absurd cc
       | inr has_not ↦ has_not
     ]
 
+-- a word with a pattern has none of the patterns that are apart from it
 none_of : (p : Pattern) (w : ℕ) (rs : List Row) → is_apart_from p rs ≡ true → matches p w ≡ true
     → filter (λ r. matches r.pattern w) rs ≡ []
 none_of p w [] apart has = refl
@@ -48,6 +47,7 @@ none_of p w (r ∷ rs) apart has =
     let parts = both_true (is_apart p r.pattern) (is_apart_from p rs) apart in
     rw (not_both p r.pattern w parts.0 has) (none_of p w rs parts.1 has)
 
+-- of rows that are apart a word matches one at most
 at_most_one : (w : ℕ) (rs : List Row) → are_apart rs ≡ true → length (filter (λ r. matches r.pattern w) rs) ≤ 1
 at_most_one w [] apart = omega arith
 at_most_one w (r ∷ rs) apart =
@@ -57,6 +57,5 @@ at_most_one w (r ∷ rs) apart =
       | inr has_not ↦ rw has_not (at_most_one w rs parts.1)
     ]
 
--- at most one row of the table matches a word
 pub one_row : (w : ℕ) → length (filter (λ r. matches r.pattern w) rows) ≤ 1
 one_row w = at_most_one w rows refl

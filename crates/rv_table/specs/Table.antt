@@ -120,18 +120,21 @@ immediate_of R word = 0
 immediate_of I word = sign_extended 12 (bits_at word 20 12)
 immediate_of S word = sign_extended 12 (bits_at word 25 7 * 2 ^ 5 + bits_at word 7 5)
 immediate_of B word =
-    sign_extended 13 (bits_at word 31 1 * 2 ^ 12 + bits_at word 7 1 * 2 ^ 11 + bits_at word 25 6 * 2 ^ 5 + bits_at word 8 4 * 2)
+    let high = bits_at word 31 1 * 2 ^ 12 + bits_at word 7 1 * 2 ^ 11 in
+    sign_extended 13 (high + bits_at word 25 6 * 2 ^ 5 + bits_at word 8 4 * 2)
 immediate_of U word = bits_at word 12 20 * 2 ^ 12
 immediate_of J word =
-    sign_extended 21 (bits_at word 31 1 * 2 ^ 20 + bits_at word 12 8 * 2 ^ 12 + bits_at word 20 1 * 2 ^ 11 + bits_at word 21 10 * 2)
+    let high = bits_at word 31 1 * 2 ^ 20 + bits_at word 12 8 * 2 ^ 12 in
+    sign_extended 21 (high + bits_at word 20 1 * 2 ^ 11 + bits_at word 21 10 * 2)
 immediate_of Shift word = bits_at word 20 5
 
--- a row's number and the immediate of a word in the row's format
+-- the row's number, and the immediate of the word in the row's format
 abbrev pub with_immediate : ℕ → Option (ℕ × Format) → Option (ℕ × ℕ)
 with_immediate word None = None
 with_immediate word (Some r) = Some (r.0, immediate_of r.1 word)
 
--- the instruction of a word, from its row's number and its immediate
+-- the instruction of a word, from its row's number and its immediate; the registers' fields
+-- are bits 11..7, 19..15 and 24..20 whatever the row is
 abbrev pub instr_from : ℕ → Option (ℕ × ℕ) → Option Instr
 instr_from word None = None
 instr_from word (Some r) = Some record {
