@@ -87,6 +87,7 @@ impl Memory {
         ensures inside { result ≡ is_inside (length self.old) addr width }
         ensures written { OnTrue result (self.new ≡ with_bytes self.old addr (take width (to_le_bytes w32 value))) }
         ensures refused { OnFalse result (self.new ≡ self.old) }
+        ensures size { length self.new ≡ length self.old }
     {
         let count = width as usize;
         if !self.has(addr, count) {
@@ -106,6 +107,7 @@ impl Memory {
             → self.new ≡ with_bytes self.old addr bytes.now }
         ensures empty { length bytes.now ≡ 0 → self.new ≡ self.old }
         ensures refused { OnFalse result (self.new ≡ self.old) }
+        ensures size { length self.new ≡ length self.old }
     {
         if bytes.is_empty() {
             return true;
@@ -151,7 +153,8 @@ impl Memory {
     /// Writes zeros over a range that is inside the window.
     pub fn clear(&mut self, addr: u32, count: usize)
         requires { IsTrue (is_inside (length self.old) addr count) }
-        ensures { self.new ≡ with_bytes self.old addr (replicate count 0) }
+        ensures cleared { self.new ≡ with_bytes self.old addr (replicate count 0) }
+        ensures size { length self.new ≡ length self.old }
     {
         let at = (addr - BASE) as usize;
         self.bytes[at..at + count].fill(0);
