@@ -107,7 +107,7 @@ store_effect i pc x mem =
     accesses (length mem) address width (Goes (sum pc 4) x (with_bytes mem address bytes))
 
 -- what arithmetic with an immediate computes of rs1 and the immediate
-unfoldable pub computed_with_immediate : ℕ → ℕ → ℕ → ℕ
+abbrev pub computed_with_immediate : ℕ → ℕ → ℕ → ℕ
 computed_with_immediate row a imm =
     if row == ADDI then sum a imm
     else if row == SLTI then flag (is_below_signed a imm)
@@ -120,7 +120,7 @@ computed_with_immediate row a imm =
     else shifted_right_signed a imm
 
 -- what arithmetic with two registers computes of rs1 and rs2
-unfoldable pub computed : ℕ → ℕ → ℕ → ℕ
+abbrev pub computed : ℕ → ℕ → ℕ → ℕ
 computed row a b =
     if row == ADD then sum a b
     else if row == SLL then shifted_left a b

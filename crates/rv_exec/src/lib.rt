@@ -6,7 +6,7 @@ mod memory;
 mod tests;
 mod words;
 
-ghost use Rattle.std.specs.Prelude.{ℕ, List, ◌≡◌, ◌<◌, slice_index};
+ghost use Rattle.std.specs.Prelude.{ℕ, List, ◌≡◌, ◌<◌, length, slice_index};
 ghost use Rattle.rv_table.specs.Table.{NamesRegisters};
 ghost use Rattle.rv_exec.specs.Meaning.{effect, effect_of, branch_effect, load_effect, store_effect, jumps, with_register};
 ghost use Rattle.rv_exec.specs.Words.{sum};
@@ -66,7 +66,8 @@ const SIGSEGV: u32 = 11;
 #[tactic(auto, unfolding(crate::specs::Meaning::effect))]
 #[inline(always)]
 pub fn exec(regs: &mut Regs, mem: &mut Memory) -> Event
-    ensures { HasEffect (effect regs.old.pc regs.old.x mem.old) result
+    ensures size { length mem.new ≡ length mem.old }
+    ensures effect { HasEffect (effect regs.old.pc regs.old.x mem.old) result
         regs.old.pc regs.old.x mem.old regs.new.pc regs.new.x mem.new }
 {
     // a special address is never inside the window
@@ -87,11 +88,12 @@ pub fn exec(regs: &mut Regs, mem: &mut Memory) -> Event
 impl Regs {
     /// Makes an instruction that was fetched and decoded. One flat match over the rows, so that a plain
     /// instruction costs one jump.
-    #[tactic(auto, unfolding(crate::specs::Meaning::effect_of, crate::specs::Meaning::computed, crate::specs::Meaning::computed_with_immediate))]
+    #[tactic(auto, unfolding(crate::specs::Meaning::effect_of))]
     #[inline(always)]
     fn make(&mut self, instr: Instr, mem: &mut Memory) -> Event
         requires { NamesRegisters instr }
-        ensures { HasEffect (effect_of instr self.old.pc self.old.x mem.old) result
+        ensures size { length mem.new ≡ length mem.old }
+        ensures effect { HasEffect (effect_of instr self.old.pc self.old.x mem.old) result
             self.old.pc self.old.x mem.old self.new.pc self.new.x mem.new }
     {
         let Instr {
@@ -181,7 +183,8 @@ impl Regs {
     #[inline(always)]
     fn store(&mut self, instr: Instr, mem: &mut Memory) -> Event
         requires { NamesRegisters instr }
-        ensures { HasEffect (store_effect instr self.old.pc self.old.x mem.old) result
+        ensures size { length mem.new ≡ length mem.old }
+        ensures effect { HasEffect (store_effect instr self.old.pc self.old.x mem.old) result
             self.old.pc self.old.x mem.old self.new.pc self.new.x mem.new }
     {
         let address = self.at(instr.rs1).wrapping_add(instr.imm);

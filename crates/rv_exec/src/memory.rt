@@ -87,6 +87,7 @@ impl Memory {
         ensures inside { result ≡ is_inside (length self.old) addr width }
         ensures written { OnTrue result (self.new ≡ with_bytes self.old addr (take width (to_le_bytes w32 value))) }
         ensures refused { OnFalse result (self.new ≡ self.old) }
+        ensures size { length self.new ≡ length self.old }
     {
         let count = width as usize;
         if !self.has(addr, count) {
@@ -102,9 +103,11 @@ impl Memory {
     /// False exactly where the slice is not empty and a byte is outside; then nothing changes.
     pub fn copy_in(&mut self, addr: u32, bytes: &[u8]) -> bool
         ensures fits { result ≡ fits (length self.old) addr (length bytes.now) }
-        ensures written { 0 < length bytes.now → IsTrue (is_inside (length self.old) addr (length bytes.now)) → self.new ≡ with_bytes self.old addr bytes.now }
+        ensures written { 0 < length bytes.now → IsTrue (is_inside (length self.old) addr (length bytes.now))
+            → self.new ≡ with_bytes self.old addr bytes.now }
         ensures empty { length bytes.now ≡ 0 → self.new ≡ self.old }
         ensures refused { OnFalse result (self.new ≡ self.old) }
+        ensures size { length self.new ≡ length self.old }
     {
         if bytes.is_empty() {
             return true;
@@ -121,7 +124,8 @@ impl Memory {
     /// False exactly where the slice is not empty and a byte is outside; then it is as before.
     pub fn copy_out(&self, addr: u32, into: &mut [u8]) -> bool
         ensures fits { result ≡ fits (length self.now) addr (length into.old) }
-        ensures copied { 0 < length into.old → IsTrue (is_inside (length self.now) addr (length into.old)) → into.new ≡ bytes_at self.now addr (length into.old) }
+        ensures copied { 0 < length into.old → IsTrue (is_inside (length self.now) addr (length into.old))
+            → into.new ≡ bytes_at self.now addr (length into.old) }
         ensures empty { length into.old ≡ 0 → into.new ≡ into.old }
         ensures refused { OnFalse result (into.new ≡ into.old) }
     {
@@ -149,7 +153,8 @@ impl Memory {
     /// Writes zeros over a range that is inside the window.
     pub fn clear(&mut self, addr: u32, count: usize)
         requires { IsTrue (is_inside (length self.old) addr count) }
-        ensures { self.new ≡ with_bytes self.old addr (replicate count 0) }
+        ensures cleared { self.new ≡ with_bytes self.old addr (replicate count 0) }
+        ensures size { length self.new ≡ length self.old }
     {
         let at = (addr - BASE) as usize;
         self.bytes[at..at + count].fill(0);

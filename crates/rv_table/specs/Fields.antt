@@ -2,7 +2,7 @@
 use Rattle.std.specs.Prelude.{ℕ, ◌==◌, ◌&&◌, List, [], ◌∷◌, Option, Some, None, Bool, if◌then◌else◌}
 use Rattle.rv_table.specs.Table.{Pattern, Opcode, Funct3, Funct7, Whole, Row, Format, rows}
 
--- a word with this opcode, funct3 and funct7 has the pattern
+-- a word with this opcode, funct3 and funct7 has the pattern (a whole word has opcode 0x73)
 abbrev pub has_fields : Pattern → ℕ → ℕ → ℕ → ℕ → Bool
 has_fields (Opcode o) opcode funct3 funct7 word = opcode == o
 has_fields (Funct3 o f) opcode funct3 funct7 word = (opcode == o) && (funct3 == f)

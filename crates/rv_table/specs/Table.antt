@@ -1,6 +1,6 @@
 -- The table of instructions: RV32I and the M extension of the RISC-V manual.
 -- A word is compared as a whole with each row, under the row's mask.
-use Rattle.std.specs.Prelude.{ℕ, ◌+◌, ◌*◌, ◌/◌, ◌%◌, ◌^◌, ◌-◌, ◌<◌, ◌==◌, ◌∷◌, List, [], Option, Some, None, bit_and, if◌then◌else◌, nat_lt}
+use Rattle.std.specs.Prelude.{ℕ, ◌+◌, ◌*◌, ◌/◌, ◌%◌, ◌^◌, ◌-◌, ◌<◌, ◌==◌, ◌∷◌, List, [], Option, Some, None, Bool, bit_and, if◌then◌else◌, nat_lt}
 use Rattle.rv_table.specs.declared.Instr.{Instr}
 use Rattle.rv_table.specs.Names.{LUI, AUIPC, JAL, JALR, BEQ, BNE, BLT, BGE, BLTU, BGEU, LB, LH, LW, LBU, LHU, SB, SH, SW, ADDI, SLTI, SLTIU, XORI, ORI, ANDI, SLLI, SRLI, SRAI, ADD, SLL, SLT, SLTU, XOR, SRL, OR, AND, SUB, SRA, MUL, MULH, MULHSU, MULHU, DIV, DIVU, REM, REMU, FENCE, ECALL, EBREAK}
 
@@ -92,13 +92,17 @@ rows =
     ∷ row EBREAK (Whole 0x00100073) R
     ∷ []
 
+-- a word matches a pattern: under the mask it has the value
+abbrev pub matches : Pattern → ℕ → Bool
+matches pattern word = bit_and word (mask_of pattern) == value_of pattern
+
 -- number and format of the first of these rows that a word matches
 abbrev pub row_among : List Row → ℕ → Option (ℕ × Format)
 row_among [] word = None
-row_among (r ∷ rs) word =
-    if bit_and word (mask_of r.pattern) == value_of r.pattern then Some (r.number, r.format) else row_among rs word
+row_among (r ∷ rs) word = if matches r.pattern word then Some (r.number, r.format) else row_among rs word
 
 -- number and format of the row of a word, which is illegal where there is none
+-- (no word matches two rows, as proofs/OneRow shows)
 unfoldable pub row_of : ℕ → Option (ℕ × Format)
 row_of word = row_among rows word
 
@@ -116,18 +120,21 @@ immediate_of R word = 0
 immediate_of I word = sign_extended 12 (bits_at word 20 12)
 immediate_of S word = sign_extended 12 (bits_at word 25 7 * 2 ^ 5 + bits_at word 7 5)
 immediate_of B word =
-    sign_extended 13 (bits_at word 31 1 * 2 ^ 12 + bits_at word 7 1 * 2 ^ 11 + bits_at word 25 6 * 2 ^ 5 + bits_at word 8 4 * 2)
+    let high = bits_at word 31 1 * 2 ^ 12 + bits_at word 7 1 * 2 ^ 11 in
+    sign_extended 13 (high + bits_at word 25 6 * 2 ^ 5 + bits_at word 8 4 * 2)
 immediate_of U word = bits_at word 12 20 * 2 ^ 12
 immediate_of J word =
-    sign_extended 21 (bits_at word 31 1 * 2 ^ 20 + bits_at word 12 8 * 2 ^ 12 + bits_at word 20 1 * 2 ^ 11 + bits_at word 21 10 * 2)
+    let high = bits_at word 31 1 * 2 ^ 20 + bits_at word 12 8 * 2 ^ 12 in
+    sign_extended 21 (high + bits_at word 20 1 * 2 ^ 11 + bits_at word 21 10 * 2)
 immediate_of Shift word = bits_at word 20 5
 
--- a row's number and the immediate of a word in the row's format
+-- the row's number, and the immediate of the word in the row's format
 abbrev pub with_immediate : ℕ → Option (ℕ × Format) → Option (ℕ × ℕ)
 with_immediate word None = None
 with_immediate word (Some r) = Some (r.0, immediate_of r.1 word)
 
--- the instruction of a word, from its row's number and its immediate
+-- the instruction of a word, from its row's number and its immediate; the registers' fields
+-- are bits 11..7, 19..15 and 24..20 whatever the row is
 abbrev pub instr_from : ℕ → Option (ℕ × ℕ) → Option Instr
 instr_from word None = None
 instr_from word (Some r) = Some record {

@@ -24,7 +24,6 @@ pub struct Instr {
 
 /// The instruction that a word stands for, by RV32I and M of the RISC-V manual.
 /// None exactly where the word is illegal: no row of the table matches it.
-#[tactic(auto, using(crate::proofs::Rows::row_is))]
 #[inline(always)]
 pub fn decode(word: u32) -> Option<Instr>
     ensures row { result ≡ decoded word }
@@ -149,6 +148,7 @@ fn system_row(word: u32) -> Option<u8>
     }
 }
 
+/// The immediate of format I: bits 31..20.
 #[tactic(auto, unfolding(crate::specs::Table::immediate_of))]
 fn immediate_i(word: u32) -> u32
     ensures { result ≡ immediate_of I word }
@@ -156,6 +156,7 @@ fn immediate_i(word: u32) -> u32
     sign_extend_12(word >> 20)
 }
 
+/// The immediate of format S: bits 31..25, 11..7.
 #[tactic(auto, unfolding(crate::specs::Table::immediate_of))]
 fn immediate_s(word: u32) -> u32
     ensures { result ≡ immediate_of S word }
@@ -163,20 +164,7 @@ fn immediate_s(word: u32) -> u32
     sign_extend_12(((word >> 25) << 5) | ((word >> 7) & 0x1f))
 }
 
-#[tactic(auto, unfolding(crate::specs::Table::immediate_of))]
-fn immediate_u(word: u32) -> u32
-    ensures { result ≡ immediate_of U word }
-{
-    word & 0xffff_f000
-}
-
-#[tactic(auto, unfolding(crate::specs::Table::immediate_of))]
-fn shift_amount(word: u32) -> u32
-    ensures { result ≡ immediate_of Shift word }
-{
-    (word >> 20) & 0x1f
-}
-
+/// The immediate of format B: bits 31, 7, 30..25, 11..8, then a 0.
 #[tactic(auto, unfolding(crate::specs::Table::immediate_of))]
 fn immediate_b(word: u32) -> u32
     ensures { result ≡ immediate_of B word }
@@ -188,6 +176,15 @@ fn immediate_b(word: u32) -> u32
     sign_extend_13((sign << 12) | ((high << 11) | ((middle << 5) | (low << 1))))
 }
 
+/// The immediate of format U: bits 31..12, then twelve 0.
+#[tactic(auto, unfolding(crate::specs::Table::immediate_of))]
+fn immediate_u(word: u32) -> u32
+    ensures { result ≡ immediate_of U word }
+{
+    word & 0xffff_f000
+}
+
+/// The immediate of format J: bits 31, 19..12, 20, 30..21, then a 0.
 #[tactic(auto, unfolding(crate::specs::Table::immediate_of))]
 fn immediate_j(word: u32) -> u32
     ensures { result ≡ immediate_of J word }
@@ -197,6 +194,14 @@ fn immediate_j(word: u32) -> u32
     let middle = (word >> 20) & 1;
     let low = (word >> 21) & 0x3ff;
     sign_extend_21((sign << 20) | ((high << 12) | ((middle << 11) | (low << 1))))
+}
+
+/// The shift amount of SLLI, SRLI and SRAI: bits 24..20.
+#[tactic(auto, unfolding(crate::specs::Table::immediate_of))]
+fn shift_amount(word: u32) -> u32
+    ensures { result ≡ immediate_of Shift word }
+{
+    (word >> 20) & 0x1f
 }
 
 /// Twelve bits, sign-extended to 32.

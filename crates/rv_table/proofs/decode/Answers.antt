@@ -9,7 +9,8 @@ use Rattle.rv_table.proofs.decode.Goals.{in-55, in-23, in-111, in-103, in-99+in_
 pub returns-clause-row : goal.returns-clause-row
 unfolding row_by_fields immediate_of
 returns-clause-row c =
-    decodes c.args.word c.match-word-and127.row.0 c.match-word-and127.row.1 c.ranges.word.fits (elim c.match-word-and127.branch [
+    let row = c.match-word-and127.row in
+    decodes c.args.word row.0 row.1 c.ranges.word.fits (elim c.match-word-and127.branch [
       | in-55 w ↦ rw (w.row-is, w.in-55.is, w.immediate_u.ensures)
       | in-23 w ↦ rw (w.row-is, w.in-23.is, w.immediate_u-in-23.ensures)
       | in-111 w ↦ rw (w.row-is, w.in-111.is, w.immediate_j.ensures)
