@@ -25,7 +25,8 @@ text-more now (m ∷ ms) move =
     ap (λ t. move_text now m ++ t) (text-more (moved now m) ms move)
     ∙ sym (append_assoc (move_text now m) (text (moved now m) ms) (move_text (after (moved now m) ms) move))
 
-no_switch : (last : Option ℕ) → switch_text last last ≡ []
+-- no line where the thread of the last instruction stays
+pub no_switch : (last : Option ℕ) → switch_text last last ≡ []
 no_switch None = refl
 no_switch (Some t) = rw (eq-eqb t t refl) refl
 
@@ -58,3 +59,19 @@ moves_fall settings now Deliver h =
     let was : not_over now.state.over ≡ 1 = ap not_over h.0 in
     let is : not_over (deliver now.state).state.over ≡ 0 = ap (λ o. not_over (delivered now.state o).state.over) h.2 in
     omega (arith, was, is)
+
+-- two runs, one behind the other
+pub IsRun-append : (settings : Settings) (now : Moment) (moves others : List Move)
+    → IsRun settings now moves → IsRun settings (after now moves) others → IsRun settings now (moves ++ others)
+IsRun-append settings now [] others first second = second
+IsRun-append settings now (m ∷ ms) others first second = (first.0, IsRun-append settings (moved now m) ms others first.1 second)
+
+pub after-append : (now : Moment) (moves others : List Move) → after now (moves ++ others) ≡ after (after now moves) others
+after-append now [] others = refl
+after-append now (m ∷ ms) others = after-append (moved now m) ms others
+
+pub text-append : (now : Moment) (moves others : List Move) → text now (moves ++ others) ≡ text now moves ++ text (after now moves) others
+text-append now [] others = refl
+text-append now (m ∷ ms) others =
+    ap (λ t. move_text now m ++ t) (text-append (moved now m) ms others)
+    ∙ sym (append_assoc (move_text now m) (text (moved now m) ms) (text (after (moved now m) ms) others))

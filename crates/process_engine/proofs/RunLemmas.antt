@@ -1,5 +1,5 @@
 -- A run so far whose text was written, one move more, and its end.
-use Rattle.std.proofs.Common.{◌≡◌, ◌∙◌, ap, sym, refl, subst, ℕ, ◌<◌, List, [], ◌∷◌, ◌++◌, Option, append-nil, append_assoc, inl, inr, arith, Result, Ok, Err, true, false}
+use Rattle.std.proofs.Common.{◌≡◌, ◌∙◌, ap, sym, refl, subst, ℕ, ◌<◌, List, [], ◌∷◌, ◌++◌, Option, Some, append-nil, append_assoc, inl, inr, arith, Result, Ok, Err, true, false}
 use Rattle.replay_io.specs.Writing.{WritesWhole, WritesFront}
 use Rattle.replay_io.proofs.WritingLemmas.{writes_nothing, whole_then_whole, whole_then_front}
 use Rattle.posix_model.specs.Changes.{Made}
@@ -11,7 +11,7 @@ use Rattle.posix_model.specs.declared.Move.{Move}
 use Rattle.posix_model.specs.declared.Move.TheVariants.{Instr, Arrive, Deliver}
 use Rattle.posix_model.specs.declared.Ending.{Ending}
 use Rattle.posix_model.specs.declared.Report.{Report}
-use Rattle.posix_model.proofs.TraceLemmas.{IsRun-more, after-more, text-more, switch_line-text, moves_left, moves_fall}
+use Rattle.posix_model.proofs.TraceLemmas.{IsRun-more, after-more, text-more, IsRun-append, after-append, text-append, switch_line-text, no_switch}
 use Rattle.process_engine.specs.Turns.{IsTurn, Runs, RunsWhole, RunsFront}
 use Rattle.process_engine.specs.declared.Turn.{Turn}
 use Rattle.process_engine.specs.declared.Turn.TheVariants.{Quiet, Made as MadeTurn}
@@ -143,3 +143,62 @@ module _ (settings : Settings) (start now : Moment) (ending : Ending) (a b c : O
     written = whole_then_front a b c f g h (text start so_far.moves) (end_text now ending) [] (text start so_far.moves ++ end_text (after start so_far.moves) ending) so_far.written w
         (append-nil (text start so_far.moves ++ end_text now ending) ∙ all_text);
   }
+
+-- a run so far, and then a whole run or a front of one from there
+module _ (settings : Settings) (start now : Moment) (a b c : Option (List ℕ)) (f g h : ℕ) (so_far : SoFarWritten settings start now a b f g) where
+  further : (moves : List Move) → IsRun settings now moves → IsRun settings start (so_far.moves ++ moves)
+  further moves run = IsRun-append settings start so_far.moves moves so_far.run (subst (λ n. IsRun settings n moves) (sym so_far.leads) run)
+
+  leads_on : (moves : List Move) → after start (so_far.moves ++ moves) ≡ after now moves
+  leads_on moves = after-append start so_far.moves moves ∙ ap (λ n. after n moves) so_far.leads
+
+  text_on : (moves : List Move) → text start (so_far.moves ++ moves) ≡ text start so_far.moves ++ text now moves
+  text_on moves = text-append start so_far.moves moves ∙ ap (λ n. text start so_far.moves ++ text n moves) so_far.leads
+
+  whole_on : (moves : List Move) (ending : Ending) (trace : List ℕ) → trace ≡ text now moves ++ end_text (after now moves) ending
+      → text start so_far.moves ++ trace ≡ text start (so_far.moves ++ moves) ++ end_text (after start (so_far.moves ++ moves)) ending
+  whole_on moves ending trace e =
+      ap (λ t. text start so_far.moves ++ t) e
+      ∙ sym (append_assoc (text start so_far.moves) (text now moves) (end_text (after now moves) ending))
+      ∙ ap (λ t. t ++ end_text (after now moves) ending) (sym (text_on moves))
+      ∙ ap (λ n. text start (so_far.moves ++ moves) ++ end_text n ending) (sym (leads_on moves))
+
+  runs_whole : (done : Done) → RunsWhole settings now done b c g h → RunsWhole settings start done a c f h
+  runs_whole done r = record {
+    trace = text start so_far.moves ++ r.trace;
+    whole = record {
+      moves = so_far.moves ++ r.whole.moves;
+      run = further r.whole.moves r.whole.run;
+      ends = subst (λ n. Ends settings n done.ending) (sym (leads_on r.whole.moves)) r.whole.ends;
+      told = whole_on r.whole.moves done.ending r.trace r.whole.told;
+    };
+    written = whole_then_whole a b c f g h (text start so_far.moves) r.trace (text start so_far.moves ++ r.trace) so_far.written r.written refl;
+  }
+
+  part_on : (trace : List ℕ) (part : IsText settings now trace) → IsText settings start (text start so_far.moves ++ trace)
+  part_on trace part = record {
+    moves = so_far.moves ++ part.moves;
+    run = further part.moves part.run;
+    told = elim part.told [
+      | inl e ↦ inl (ap (λ t. text start so_far.moves ++ t) e ∙ sym (text_on part.moves))
+      | inr e ↦ inr (e.0, subst (λ n. Ends settings n e.0) (sym (leads_on part.moves)) e.1, whole_on part.moves e.0 trace e.2)
+    ];
+  }
+
+  runs_front : RunsFront settings now b c g h → RunsFront settings start a c f h
+  runs_front r = record {
+    trace = text start so_far.moves ++ r.trace;
+    part = part_on r.trace r.part;
+    written = whole_then_front a b c f g h (text start so_far.moves) r.trace [] (text start so_far.moves ++ r.trace) so_far.written r.written (append-nil (text start so_far.moves ++ r.trace));
+  }
+
+  pub runs_on : {E : Type 0} (result : Result Done E) → Runs settings now result b c g h → Runs settings start result a c f h
+  runs_on (Ok done) r = runs_whole done r
+  runs_on (Err e) r = runs_front r
+
+pub same_runs : {E : Type 0} (s t : Settings) (start : Moment) (result : Result Done E) (a b : Option (List ℕ)) (f g : ℕ) → s ≡ t → Runs s start result a b f g → Runs t start result a b f g
+same_runs s t start result a b f g e r = subst (λ u. Runs u start result a b f g) e r
+
+-- a run whose thread stays writes no line for a switch
+pub stays : (now new : Moment) (t : ℕ) → now.last ≡ Some t → new.last ≡ Some t → switch_text now.last new.last ≡ []
+stays now new t e f = ap (λ (o : Option ℕ). switch_text o new.last) e ∙ ap (λ (o : Option ℕ). switch_text (Some t) o) f ∙ no_switch (Some t)

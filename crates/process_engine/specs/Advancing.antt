@@ -41,7 +41,7 @@ Advanced p (Delivery sig) q = (p.over ≡ None) × (p.fault ≡ Some sig) × (q 
 
 -- a move without lines was made, one is still to be told, or the run has ended
 abbrev pub Advances : Single → Came → Single → Type 0
-Advances p Plain q = IsTurn p.settings (moment_of p) Quiet (moment_of q) × (q.settings ≡ p.settings)
+Advances p Plain q = IsTurn p.settings (moment_of p) Quiet (moment_of q) × (q.settings ≡ p.settings) × (q.last ≡ Some 1)
 Advances p (Told cause) q = Advanced p cause q
 Advances p (End ending) q = Ends p.settings (moment_of p) ending × (p.fault ≡ None) × (q ≡ p)
 

@@ -285,6 +285,7 @@ impl Process {
         requires { CanTell cause self.old }
         ensures turn { (p : Single) → Advanced p cause self.old → IsTurn p.settings (moment_of p) (Turn.Made result) (moment_of self.new) }
         ensures settings { self.new.settings ≡ self.old.settings }
+        ensures begun { self.new.last ≡ Some 1 }
     {
         match cause {
             Cause::Call => self.call(),
@@ -354,22 +355,53 @@ impl Process {
         put_report(report, &self.mem, mode, out)
     }
 
-    /// Makes the rest of the run and writes its text.
-    fn run_to_end<O: Sink>(&mut self, out: &mut O, mode: Mode) -> Result<Done, SinkFailed>
+    /// Writes the lines of a move that was made with this report.
+    #[tactic(auto, unfolding(crate::specs::Single::state_of))]
+    fn put_told<O: Sink>(&self, report: &Report, mode: Mode, out: &mut O) -> Result<(), SinkFailed>
+        requires { IsReadable report.now (state_of self.now).memory }
+        ensures { Writes result (O.written out.old) (O.written out.new) (O.faults out.old) (O.faults out.new) (lines report.now (state_of self.now).memory) }
+    {
+        put_report(report, &self.mem, mode, out)
+    }
+
+    /// Makes the rest of a run that has begun, and writes its text: the thread of the last instruction stays.
+    fn run_on<O: Sink>(&mut self, out: &mut O, mode: Mode) -> Result<Done, SinkFailed>
+        requires { self.old.last ≡ Some 1 }
         ensures { Runs self.old.settings (moment_of self.old) result (O.written out.old) (O.written out.new) (O.faults out.old) (O.faults out.new) }
     {
         loop {
-            let before = self.last();
             match self.advance() {
-                Came::Plain => self.put_switch(before, out)?,
+                Came::Plain => {}
                 Came::Told(cause) => {
                     let report = self.tell(cause);
-                    self.put_made(before, &report, mode, out)?;
+                    self.put_told(&report, mode, out)?;
                 }
                 Came::End(ending) => {
                     put_end(&ending, &self.left(), out)?;
                     return Ok(Done { ending });
                 }
+            }
+        }
+    }
+
+    /// Makes the rest of the run and writes its text.
+    fn run_to_end<O: Sink>(&mut self, out: &mut O, mode: Mode) -> Result<Done, SinkFailed>
+        ensures { Runs self.old.settings (moment_of self.old) result (O.written out.old) (O.written out.new) (O.faults out.old) (O.faults out.new) }
+    {
+        let before = self.last();
+        match self.advance() {
+            Came::Plain => {
+                self.put_switch(before, out)?;
+                self.run_on(out, mode)
+            }
+            Came::Told(cause) => {
+                let report = self.tell(cause);
+                self.put_made(before, &report, mode, out)?;
+                self.run_on(out, mode)
+            }
+            Came::End(ending) => {
+                put_end(&ending, &self.left(), out)?;
+                Ok(Done { ending })
             }
         }
     }

@@ -11,6 +11,7 @@ ghost use Rattle.rv_table.specs.Table.{NamesRegisters};
 ghost use Rattle.rv_exec.specs.Meaning.{effect, effect_of, branch_effect, load_effect, store_effect, jumps, with_register};
 ghost use Rattle.rv_exec.specs.Words.{sum};
 ghost use Rattle.rv_exec.specs.Outcome.{HasEffect};
+ghost use Rattle.thread_base.specs.Numbers.{IsInScope};
 
 pub use memory::{BASE, Memory};
 use rv_table::{Instr, decode, row};
@@ -61,6 +62,16 @@ const SIGBUS: u32 = 7;
 
 const SIGSEGV: u32 = 11;
 
+/// A fault with a signal in scope. It stands apart, since a plain instruction never comes by here.
+#[cold]
+#[inline(never)]
+fn fault(signal: u32) -> Event
+    requires { IsInScope signal }
+    ensures { result ≡ Event.Fault signal }
+{
+    Event::Fault(Sig::of(signal))
+}
+
 /// Makes the instruction at pc: one of RV32IM, by the RISC-V manual, or the return to a special address.
 /// With an event other than Next, registers and memory are unchanged.
 #[tactic(auto, unfolding(crate::specs::Meaning::effect))]
@@ -76,11 +87,11 @@ pub fn exec(regs: &mut Regs, mem: &mut Memory) -> Event
             HANDLER_RETURN => Event::Return(Special::Handler),
             CLEANUP_RETURN => Event::Return(Special::Cleanup),
             START_RETURN => Event::Return(Special::Start),
-            _ => Event::Fault(Sig::of(SIGSEGV)),
+            _ => fault(SIGSEGV),
         };
     };
     let Some(instr) = decode(word) else {
-        return Event::Fault(Sig::of(SIGILL));
+        return fault(SIGILL);
     };
     regs.make(instr, mem)
 }
@@ -140,7 +151,7 @@ impl Regs {
             row::REMU => self.write(rd, words::remainder(self.at(rs1), self.at(rs2))),
             row::FENCE => self.go_on(),
             row::ECALL => Event::Ecall,
-            _ => Event::Fault(Sig::of(SIGTRAP)),
+            _ => fault(SIGTRAP),
         }
     }
 
@@ -170,11 +181,11 @@ impl Regs {
         let address = self.at(instr.rs1).wrapping_add(instr.imm);
         let width = words::load_width(instr.row);
         if address % width != 0 {
-            return Event::Fault(Sig::of(SIGBUS));
+            return fault(SIGBUS);
         }
         match mem.read(address, width) {
             Some(number) => self.write(instr.rd, words::extend(instr.row, number)),
-            None => Event::Fault(Sig::of(SIGSEGV)),
+            None => fault(SIGSEGV),
         }
     }
 
@@ -190,10 +201,10 @@ impl Regs {
         let address = self.at(instr.rs1).wrapping_add(instr.imm);
         let width = words::store_width(instr.row);
         if address % width != 0 {
-            return Event::Fault(Sig::of(SIGBUS));
+            return fault(SIGBUS);
         }
         if !mem.write(address, width, self.at(instr.rs2)) {
-            return Event::Fault(Sig::of(SIGSEGV));
+            return fault(SIGSEGV);
         }
         self.go_on()
     }
@@ -207,7 +218,7 @@ impl Regs {
             self.old.pc self.old.x mem self.new.pc self.new.x mem }
     {
         if target % 4 != 0 {
-            return Event::Fault(Sig::of(SIGBUS));
+            return fault(SIGBUS);
         }
         self.set(rd, self.pc.wrapping_add(4));
         self.pc = target;
