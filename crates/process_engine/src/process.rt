@@ -243,6 +243,7 @@ impl Process {
     }
 
     /// Makes the instruction at which thread 1 stands, up to what its event asks for.
+    #[inline(always)]
     fn step(&mut self) -> Event
         requires { CanGo self.old }
         ensures effect { HasEffect (effect self.old.pc self.old.x self.old.memory) result self.old.pc self.old.x self.old.memory self.new.pc self.new.x self.new.memory }
@@ -254,6 +255,7 @@ impl Process {
     }
 
     /// Makes an instruction in its turn, up to what its event asks for.
+    #[inline(always)]
     fn advance_instruction(&mut self) -> Came
         requires { CanGo self.old }
         ensures { Advances self.old result self.new }
@@ -267,6 +269,7 @@ impl Process {
     }
 
     /// Goes on by one move, but for what the move's report tells: that is made by `tell`.
+    #[inline(always)]
     fn advance(&mut self) -> Came
         ensures { Advances self.old result self.new }
     {

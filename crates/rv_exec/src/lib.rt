@@ -11,7 +11,6 @@ ghost use Rattle.rv_table.specs.Table.{NamesRegisters};
 ghost use Rattle.rv_exec.specs.Meaning.{effect, effect_of, branch_effect, load_effect, store_effect, jumps, with_register};
 ghost use Rattle.rv_exec.specs.Words.{sum};
 ghost use Rattle.rv_exec.specs.Outcome.{HasEffect};
-ghost use Rattle.thread_base.specs.Numbers.{IsInScope};
 
 pub use memory::{BASE, Memory};
 use rv_table::{Instr, decode, row};
@@ -62,16 +61,6 @@ const SIGBUS: u32 = 7;
 
 const SIGSEGV: u32 = 11;
 
-/// A fault with a signal in scope. It stands apart, since a plain instruction never comes by here.
-#[cold]
-#[inline(never)]
-fn fault(signal: u32) -> Event
-    requires { IsInScope signal }
-    ensures { result ≡ Event.Fault signal }
-{
-    Event::Fault(Sig::of(signal))
-}
-
 /// Makes the instruction at pc: one of RV32IM, by the RISC-V manual, or the return to a special address.
 /// With an event other than Next, registers and memory are unchanged.
 #[tactic(auto, unfolding(crate::specs::Meaning::effect))]
@@ -87,11 +76,11 @@ pub fn exec(regs: &mut Regs, mem: &mut Memory) -> Event
             HANDLER_RETURN => Event::Return(Special::Handler),
             CLEANUP_RETURN => Event::Return(Special::Cleanup),
             START_RETURN => Event::Return(Special::Start),
-            _ => fault(SIGSEGV),
+            _ => Event::Fault(Sig::of(SIGSEGV)),
         };
     };
     let Some(instr) = decode(word) else {
-        return fault(SIGILL);
+        return Event::Fault(Sig::of(SIGILL));
     };
     regs.make(instr, mem)
 }
@@ -151,7 +140,7 @@ impl Regs {
             row::REMU => self.write(rd, words::remainder(self.at(rs1), self.at(rs2))),
             row::FENCE => self.go_on(),
             row::ECALL => Event::Ecall,
-            _ => fault(SIGTRAP),
+            _ => Event::Fault(Sig::of(SIGTRAP)),
         }
     }
 
@@ -181,11 +170,11 @@ impl Regs {
         let address = self.at(instr.rs1).wrapping_add(instr.imm);
         let width = words::load_width(instr.row);
         if address % width != 0 {
-            return fault(SIGBUS);
+            return Event::Fault(Sig::of(SIGBUS));
         }
         match mem.read(address, width) {
             Some(number) => self.write(instr.rd, words::extend(instr.row, number)),
-            None => fault(SIGSEGV),
+            None => Event::Fault(Sig::of(SIGSEGV)),
         }
     }
 
@@ -201,10 +190,10 @@ impl Regs {
         let address = self.at(instr.rs1).wrapping_add(instr.imm);
         let width = words::store_width(instr.row);
         if address % width != 0 {
-            return fault(SIGBUS);
+            return Event::Fault(Sig::of(SIGBUS));
         }
         if !mem.write(address, width, self.at(instr.rs2)) {
-            return fault(SIGSEGV);
+            return Event::Fault(Sig::of(SIGSEGV));
         }
         self.go_on()
     }
@@ -218,7 +207,7 @@ impl Regs {
             self.old.pc self.old.x mem self.new.pc self.new.x mem }
     {
         if target % 4 != 0 {
-            return fault(SIGBUS);
+            return Event::Fault(Sig::of(SIGBUS));
         }
         self.set(rd, self.pc.wrapping_add(4));
         self.pc = target;

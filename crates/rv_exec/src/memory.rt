@@ -55,9 +55,9 @@ impl Memory {
         ensures inside { result ≡ is_inside (length self.now) addr count }
         ensures limit { length self.now ≤ 67108864 }
     {
-        let size = self.bytes.len();
         // below BASE the difference wraps to more than any size
-        count <= size && addr.wrapping_sub(BASE) as usize <= size - count
+        let at = addr.wrapping_sub(BASE) as usize;
+        at.saturating_add(count) <= self.bytes.len()
     }
 
     /// The little-endian number of 1, 2 or 4 bytes at an address; None exactly where one is outside.
