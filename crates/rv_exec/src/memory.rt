@@ -1,7 +1,7 @@
-ghost use Rattle.std.specs.Prelude.{◌≡◌, ◌<◌, ◌≤◌, ◌+◌, ◌-◌, ◌^◌, ◌↔◌, ℕ, length, replicate, slice_index, take, drop, IfOk, IfSome, IsSome, IsTrue};
+ghost use Rattle.std.specs.Prelude.{◌≡◌, ◌<◌, ◌≤◌, ◌+◌, ◌-◌, ◌^◌, ◌↔◌, ℕ, length, replicate, slice_index, take, IfOk, IfSome, IsSome, IsTrue};
 ghost use Rattle.std.specs.Bool.{OnTrue, OnFalse};
 ghost use Rattle.std.specs.Int.{to_le_bytes, w32};
-ghost use Rattle.rv_exec.specs.Window.{zeros, base, is_inside, fits, number_at, bytes_at, with_bytes, IsWidth, IsMemorySize};
+ghost use Rattle.rv_exec.specs.Window.{zeros, is_inside, fits, number_at, bytes_at, with_bytes, IsWidth, IsMemorySize};
 
 use byteorder::{ByteOrder, LittleEndian};
 use std::alloc::Global;

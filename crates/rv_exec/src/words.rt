@@ -1,7 +1,7 @@
 ghost use Rattle.std.specs.Prelude.{◌≡◌, ◌<◌, ◌^◌, nat_lt};
 ghost use Rattle.rv_exec.specs.Meaning.{extended, is_taken, width_of_load, width_of_store};
 ghost use Rattle.rv_exec.specs.Window.{IsWidth};
-ghost use Rattle.rv_exec.specs.Words.{flag, is_below_signed, difference, shifted_left, shifted_right, shifted_right_signed, low_product, high_product, high_product_signed, high_product_mixed, quotient, quotient_signed, remainder, remainder_signed};
+ghost use Rattle.rv_exec.specs.Words.{flag, is_below_signed, shifted_right_signed, high_product, high_product_signed, high_product_mixed, quotient, quotient_signed, remainder, remainder_signed};
 
 use rv_table::row;
 

@@ -4,7 +4,7 @@
 /// The rows' numbers by name.
 pub mod row;
 
-ghost use Rattle.std.specs.Prelude.{ℕ, ◌≡◌, ◌<◌, ◌^◌, IfSome};
+ghost use Rattle.std.specs.Prelude.{◌≡◌, ◌<◌, ◌^◌, IfSome};
 ghost use Rattle.rv_table.specs.Fields.{row_by_fields, with_format};
 ghost use Rattle.rv_table.specs.Table.{NamesRegisters, decoded, immediate_of, sign_extended, R, I, S, B, U, J, Shift};
 
