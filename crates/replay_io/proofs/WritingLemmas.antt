@@ -1,5 +1,5 @@
 -- One write after another.
-use Rattle.std.proofs.Common.{◌≡◌, ◌∙◌, ap, sym, subst, refl, ℕ, List, [], ◌++◌, append_assoc, append-nil, Option, arith, ◌≤◌, Result, Ok, Err, true, false}
+use Rattle.std.proofs.Common.{◌≡◌, ◌∙◌, ap, sym, subst, refl, ℕ, List, [], ◌++◌, append_assoc, append-nil, Option, ◌≤◌, Result, Ok, Err, true, false}
 use Rattle.std.specs.Result.{IsErr}
 use Rattle.replay_io.specs.Writing.{Writes, WritesWhole, WritesFront, Rose}
 

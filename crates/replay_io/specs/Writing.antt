@@ -1,5 +1,5 @@
 -- What a sink has taken, where it tells, and when it may fail (this project's own).
-use Rattle.std.specs.Prelude.{◌≡◌, ℕ, ◌++◌, ◌+◌, ◌-◌, ◌^◌, ◌≤◌, List, Option, Some, None, Result, Ok, Err, min}
+use Rattle.std.specs.Prelude.{◌≡◌, ℕ, ◌++◌, ◌+◌, ◌-◌, ◌^◌, ◌≤◌, List, Option, Some, Result, Ok, Err, min}
 
 -- where the bytes are told afterwards, they were told before, and all of the text came behind them
 abbrev pub Appended : Option (List ℕ) → Option (List ℕ) → List ℕ → Type 0

@@ -1,5 +1,5 @@
 -- Total maps: reads after writes, and writes after writes.
-use Rattle.std.proofs.Common.{◌≡◌, ◌≢◌, ℕ, Bool, true, false, cond, refl, sym, ap, ◌∙◌, subst, inl, inr, eqb, arith, List, ◌∷◌, ◌+◌, ◌<◌, suc, zero, get_or, set, length, replicate, length-set, get_or-set_same, get_or-set_other}
+use Rattle.std.proofs.Common.{◌≡◌, ◌≢◌, ℕ, refl, sym, ap, ◌∙◌, subst, inl, inr, arith, List, ◌∷◌, ◌+◌, ◌<◌, suc, zero, get_or, set, length, replicate, length-set, get_or-set_same, get_or-set_other}
 use Rattle.std.proofs.lemmas.List.{get_or_default}
 use Rattle.std.proofs.lemmas.Bool.{eq-eqb, ne_eqb, cases_eq}
 use Rattle.thread_base.specs.Maps.{put, numbered}

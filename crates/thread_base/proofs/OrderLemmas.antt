@@ -1,10 +1,9 @@
 -- Lists of threads after a push or a removal, and how long they are.
-use Rattle.std.proofs.Common.{◌≡◌, ◌≢◌, ℕ, Bool, true, false, cond, not, refl, sym, ap, ◌∙◌, inl, inr, eqb, arith, List, [], ◌∷◌, ◌++◌, ◌+◌, ◌<◌, ◌≤◌, length, subst, ◌||◌, filter}
-use Rattle.std.proofs.lemmas.Bool.{eq-eqb, ne_eqb, eqb-true, eqb-false, cases_Bool}
+use Rattle.std.proofs.Common.{◌≡◌, ℕ, Bool, true, false, cond, refl, sym, ◌∙◌, inl, inr, eqb, arith, List, [], ◌∷◌, ◌++◌, ◌<◌, ◌≤◌, length, ◌||◌, filter}
+use Rattle.std.proofs.lemmas.Bool.{ne_eqb, eqb-true, eqb-false, cases_Bool}
 use Rattle.std.proofs.lemmas.List.Folds.{list_any-append}
-use Rattle.std.proofs.lemmas.Map.Views.{any-filter_same}
 use Rattle.std.proofs.lemmas.Map.Steps.{length-le_from_distinct_below}
-use Rattle.std.specs.List.{list_any, IsDistinct, AllByRecursion}
+use Rattle.std.specs.List.{IsDistinct, AllByRecursion}
 use Rattle.thread_base.specs.Orders.{is_in, without, IsOrder}
 
 or_false : (a b : Bool) → a || b ≡ false → (a ≡ false) × (b ≡ false)

@@ -1,5 +1,5 @@
 -- The first of the greatest, as a loop from the front finds it.
-use Rattle.std.proofs.Common.{◌≡◌, ℕ, Bool, true, false, cond, refl, sym, ap, ◌∙◌, inl, inr, ltb, eqb, arith, List, [], ◌∷◌, ◌++◌, ◌+◌, ◌<◌, ◌≤◌, max, zero, Option, Some, None, find, subst, ◌||◌}
+use Rattle.std.proofs.Common.{◌≡◌, ℕ, Bool, true, false, cond, refl, sym, ap, ◌∙◌, inl, inr, ltb, eqb, arith, List, [], ◌∷◌, ◌++◌, ◌<◌, max, Option, Some, None, find, ◌||◌}
 use Rattle.thread_base.specs.Orders.{is_in}
 use Rattle.std.proofs.lemmas.Bool.{eq-eqb, ne_eqb, cases_lt, cases_Bool, lt-ltb, le-ltb}
 use Rattle.std.proofs.lemmas.List.Folds.{find-append}

@@ -15,9 +15,9 @@ returns-then-self c =
     let on = goes c.self.inside.standing (sym c.in-None.ensures) in
     let fault = ap (λ (p : Single). p.fault) v ∙ on.1 in (
       budget_ends c.args.self.now
-      (ap (λ (p : Single). p.over) v ∙ on.0)
-      fault
-      (ap (λ (p : Single). p.made) v ∙ c.if-self.true ∙ ap (λ (p : Single). p.settings.budget) c.self.view_is),
+          (ap (λ (p : Single). p.over) v ∙ on.0)
+          fault
+          (ap (λ (p : Single). p.made) v ∙ c.if-self.true ∙ ap (λ (p : Single). p.settings.budget) c.self.view_is),
       fault,
       refl,
     )

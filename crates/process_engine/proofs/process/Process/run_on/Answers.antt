@@ -22,7 +22,7 @@ loop-cause-preserved-in-Plain g c =
       c.in-Plain.ensures.1 ∙ c.loop-cause.invariant.0,
       c.in-Plain.ensures.2,
       quiet_more settings start now new _ _ _ _ _ _ c.loop-cause.invariant.2 now.last refl (same_turn c.loop-cause.self.settings settings now new Quiet c.loop-cause.invariant.0 c.in-Plain.ensures.0)
-      (subst (λ (xs : List ℕ). WritesWhole b b f f xs) (sym silent) (writes_nothing b f)),
+          (subst (λ (xs : List ℕ). WritesWhole b b f f xs) (sym silent) (writes_nothing b f)),
     )
 
 pub loop-cause-preserved : goal.loop-cause-preserved
@@ -36,7 +36,7 @@ loop-cause-preserved g c =
       c.tell-report.ensures.settings ∙ same_settings c.loop-cause.self c.in-Told.cause c.advance.new.self c.in-Told.ensures ∙ c.loop-cause.invariant.0,
       c.tell-report.ensures.begun,
       made_more settings start now new _ _ _ _ _ _ c.loop-cause.invariant.2 now.last refl c.tell-report.result (same_turn c.loop-cause.self.settings settings now new (Made c.tell-report.result) c.loop-cause.invariant.0 (c.tell-report.ensures.turn c.loop-cause.self c.in-Told.ensures))
-      (subst (λ (xs : List ℕ). WritesWhole (g.O.Sink.written c.loop-cause.out) (g.O.Sink.written c.put_told.new.out) (g.O.Sink.faults c.loop-cause.out) (g.O.Sink.faults c.put_told.new.out) (xs ++ text)) (sym silent) c.in_ok-put_told-in-Told.ensures),
+          (subst (λ (xs : List ℕ). WritesWhole (g.O.Sink.written c.loop-cause.out) (g.O.Sink.written c.put_told.new.out) (g.O.Sink.faults c.loop-cause.out) (g.O.Sink.faults c.put_told.new.out) (xs ++ text)) (sym silent) c.in_ok-put_told-in-Told.ensures),
     )
 
 pub returns-in_err-put_told-in-Told : goal.returns-in_err-put_told-in-Told
