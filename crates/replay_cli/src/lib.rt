@@ -9,3 +9,6 @@ mod top;
 pub use failure::{Failure, Status};
 pub use journal::JournalRefusal;
 pub use top::replay;
+
+#[cfg(test)]
+mod tests;

@@ -1,0 +1,330 @@
+use super::*;
+use replay_io::{MemFiles, MemSink, Words};
+use std::alloc::Global;
+use std::process::Abort;
+use std::test::Fail;
+use workload_gen::{sheet, sys_words};
+
+/// The smallest image: it writes `hi` and exits with 3.
+const SMALLEST: [u8; 122] =
+    *b"\x7f\x45\x4c\x46\x01\x01\x01\x00\x00\x00\x00\x00\x00\x00\x00\x00\x02\x00\xf3\x00\x01\x00\x00\x00\x54\x00\x01\x00\x34\x00\x00\x00\x00\x00\x00\x00\x00\x00\x00\x00\x34\x00\x20\x00\x01\x00\x00\x00\x00\x00\x00\x00\x01\x00\x00\x00\x00\x00\x00\x00\x00\x00\x01\x00\x00\x00\x01\x00\x7a\x00\x00\x00\x7a\x00\x00\x00\x05\x00\x00\x00\x00\x10\x00\x00\x13\x05\x10\x00\x97\x05\x00\x00\x93\x85\x05\x02\x13\x06\x20\x00\x93\x08\x00\x04\x73\x00\x00\x00\x13\x05\x30\x00\x93\x08\xd0\x05\x73\x00\x00\x00\x68\x69";
+
+/// Its text.
+const SMALLEST_TEXT: &[u8] =
+    b"run 1\ncall 1 64 1 65656 2 0 = 0 2\nout 1 1 6869\ncall 1 93 3 65656 2 0 = end\nend exit 3\n";
+
+const EMPTY: &[u8] = b"fsu-journal 1\n";
+
+/// What a replay is given, and what it must answer.
+#[derive(Clone, Copy)]
+struct Case<'a> {
+    words: &'a [&'a str],
+    image: &'a [u8],
+    journal: &'a [u8],
+    failing_loads: &'a [u32],
+    failing_puts: &'a [(u32, u32)],
+    status: Status,
+    out: &'a [u8],
+    err: &'a [u8],
+}
+
+/// A case in which nothing fails.
+fn given<'a>(
+    image: &'a [u8],
+    journal: &'a [u8],
+    status: Status,
+    out: &'a [u8],
+    err: &'a [u8],
+) -> Case<'a> {
+    Case {
+        words: &["image", "journal"],
+        image,
+        journal,
+        failing_loads: &[],
+        failing_puts: &[],
+        status,
+        out,
+        err,
+    }
+}
+
+/// Replays a case over memory, and compares status, output and the line that tells why.
+fn check(rt: &impl Abort, alloc: Global, case: &Case<'_>) -> Result<(), Fail> {
+    let mut words = Words::new(alloc);
+    for word in case.words {
+        words.push(word)?;
+    }
+    let mut files = MemFiles::new(alloc, case.failing_loads)?;
+    files.add("image", case.image)?;
+    files.add("journal", case.journal)?;
+    let mut out = MemSink::new(alloc, 4096, case.failing_puts)?;
+    let mut err = MemSink::new(alloc, 4096, &[])?;
+    let status = replay(alloc, &words, &mut files, &mut out, &mut err);
+    assert_eq!(rt; status, case.status);
+    assert_eq!(rt; out.bytes(), case.out);
+    assert_eq!(rt; err.bytes(), case.err);
+    Ok(())
+}
+
+/// Writes a piece into bytes, as far as they go.
+fn put(bytes: &mut Vec<u8>, at: usize, piece: &[u8]) {
+    for (i, byte) in piece.iter().enumerate() {
+        if let Some(place) = bytes.get_mut(at.saturating_add(i)) {
+            *place = *byte;
+        }
+    }
+}
+
+/// An image as a linker makes it: 9,000 bytes with section headers and four program headers, of which two
+/// are loaded, the first with the headers and the second with more memory than file.
+fn linked(alloc: Global) -> Result<Vec<u8>, Fail> {
+    let mut bytes = Vec::from_elem(alloc, 0x5a, 9000)?;
+    put(&mut bytes, 0, &SMALLEST[..52]);
+    // the entry, the place of the section headers, four program headers, five section headers
+    put(&mut bytes, 24, &[0x00, 0x02, 0x01, 0x00]);
+    put(&mut bytes, 32, &[0x60, 0x22, 0x00, 0x00]);
+    put(&mut bytes, 44, &[4, 0, 40, 0, 5, 0, 4, 0]);
+    let headers: [[u32; 8]; 4] = [
+        [0x7000_0003, 0x1100, 0, 0, 0x20, 0, 4, 1],
+        [1, 0, 0x1_0000, 0x1_0000, 0x300, 0x300, 5, 0x1000],
+        [1, 0x1000, 0x1_2000, 0x1_2000, 0x100, 0x800, 6, 0x1000],
+        [0x6474_e551, 0, 0, 0, 0, 0, 6, 16],
+    ];
+    for (i, header) in headers.iter().enumerate() {
+        for (k, field) in header.iter().enumerate() {
+            put(
+                &mut bytes,
+                52usize
+                    .saturating_add(i.saturating_mul(32))
+                    .saturating_add(k.saturating_mul(4)),
+                &field.to_le_bytes(),
+            );
+        }
+    }
+    put(&mut bytes, 0x200, &SMALLEST[84..]);
+    Ok(bytes)
+}
+
+/// The smallest image with some bytes changed.
+fn changed(alloc: Global, changes: &[(usize, u8)]) -> Result<Vec<u8>, Fail> {
+    let mut bytes = Vec::from_slice(alloc, &SMALLEST)?;
+    for (at, byte) in changes {
+        if let Some(place) = bytes.get_mut(*at) {
+            *place = *byte;
+        }
+    }
+    Ok(bytes)
+}
+
+#[test]
+fn the_smallest_image_runs(rt: HostRuntime) -> Result<(), Fail> {
+    let alloc = rt.alloc();
+    check(
+        &rt,
+        alloc,
+        &given(&SMALLEST, EMPTY, Status::Ran, SMALLEST_TEXT, b""),
+    )?;
+    // other flags than the low four are not looked at
+    let flags = changed(alloc, &[(36, 0x10)])?;
+    check(
+        &rt,
+        alloc,
+        &given(&flags, EMPTY, Status::Ran, SMALLEST_TEXT, b""),
+    )?;
+    let linked_text =
+        b"run 1\ncall 1 64 1 66084 2 0 = 0 2\nout 1 1 6869\ncall 1 93 3 66084 2 0 = end\nend exit 3\n";
+    check(
+        &rt,
+        alloc,
+        &given(&linked(alloc)?, EMPTY, Status::Ran, linked_text, b""),
+    )?;
+    for (status, code) in [
+        (Status::Ran, 0),
+        (Status::Words, 2),
+        (Status::ReadFault, 3),
+        (Status::Image, 4),
+        (Status::Journal, 5),
+        (Status::WriteFault, 6),
+        (Status::NoMemory, 7),
+    ] {
+        assert_eq!(rt; status.code(), code);
+    }
+    Ok(())
+}
+
+#[test]
+fn refused_images(rt: HostRuntime) -> Result<(), Fail> {
+    let alloc = rt.alloc();
+    let header = changed(alloc, &[(44, 0), (24, 0), (25, 0), (26, 0)])?;
+    let long = changed(alloc, &[(68, 123), (72, 123)])?;
+    let small = changed(alloc, &[(72, 121)])?;
+    let low = changed(alloc, &[(60, 0xfc), (61, 0xff), (62, 0)])?;
+    let flags = changed(alloc, &[(36, 1)])?;
+    let refused = |image, err| given(image, EMPTY, Status::Image, b"", err);
+    check(
+        &rt,
+        alloc,
+        &refused(&SMALLEST[..51], b"fsu_replay: image refused: Short\n"),
+    )?;
+    check(
+        &rt,
+        alloc,
+        &refused(
+            header.as_slice().get(..52).ok_or("short")?,
+            b"fsu_replay: image refused: Entry\n",
+        ),
+    )?;
+    check(
+        &rt,
+        alloc,
+        &refused(&long, b"fsu_replay: image refused: SegmentOutOfFile 0\n"),
+    )?;
+    check(
+        &rt,
+        alloc,
+        &refused(&small, b"fsu_replay: image refused: SizeAboveMemory 0\n"),
+    )?;
+    check(
+        &rt,
+        alloc,
+        &refused(&low, b"fsu_replay: image refused: OutsideWindow 0\n"),
+    )?;
+    check(
+        &rt,
+        alloc,
+        &refused(&flags, b"fsu_replay: image refused: Flags\n"),
+    )
+}
+
+#[test]
+fn words_and_journals(rt: HostRuntime) -> Result<(), Fail> {
+    let alloc = rt.alloc();
+    let words: [&[&str]; 5] = [
+        &[],
+        &["image"],
+        &["image", "journal", "more"],
+        &["-image", "journal"],
+        &["image", "--steps"],
+    ];
+    for words in words {
+        let refused = Case {
+            words,
+            ..given(&SMALLEST, EMPTY, Status::Words, b"", b"fsu_replay: words\n")
+        };
+        check(&rt, alloc, &refused)?;
+    }
+    let journals: [(&[u8], &[u8]); 3] = [
+        (b"", b"fsu_replay: journal refused: Header\n"),
+        (b"fsu-journal 1", b"fsu_replay: journal refused: Header\n"),
+        (
+            b"fsu-journal 1\n\n",
+            b"fsu_replay: journal refused: Line 2\n",
+        ),
+    ];
+    for (journal, err) in journals {
+        check(
+            &rt,
+            alloc,
+            &given(&SMALLEST, journal, Status::Journal, b"", err),
+        )?;
+    }
+    Ok(())
+}
+
+#[test]
+fn endings(rt: HostRuntime) -> Result<(), Fail> {
+    let alloc = rt.alloc();
+    // a jump by 2
+    let misaligned = changed(alloc, &[(84, 0x6f), (85, 0), (86, 0x20), (87, 0)])?;
+    let killed = b"run 1\nfault 1 7\ndeliver 1 7 1\nend killed 7\n";
+    check(
+        &rt,
+        alloc,
+        &given(&misaligned, EMPTY, Status::Ran, killed, b""),
+    )?;
+    // a jump to itself
+    let endless = changed(alloc, &[(84, 0x6f), (85, 0), (86, 0), (87, 0)])?;
+    check(
+        &rt,
+        alloc,
+        &given(&endless, EMPTY, Status::Ran, b"run 1\nend budget\n", b""),
+    )?;
+    // a return from the first routine, which is not due yet
+    let returned = changed(alloc, &[(84, 0x67), (85, 0x80), (86, 0), (87, 0)])?;
+    let not_due = b"run 1\nfault 1 11\ndeliver 1 11 1\nend killed 11\n";
+    check(
+        &rt,
+        alloc,
+        &given(&returned, EMPTY, Status::Ran, not_due, b""),
+    )
+}
+
+#[test]
+fn calls(rt: HostRuntime) -> Result<(), Fail> {
+    let alloc = rt.alloc();
+    let mut code = Vec::new(alloc);
+    for (number, args) in [
+        (64, [1, 131_072, 0, 0]),
+        (64, [1, 4, 1, 0]),
+        (64, [7, 131_072, 1, 0]),
+        (64, [2, 131_072, 3, 0]),
+        (17, [0, 0, 0, 0]),
+        (300, [5, 6, 7, 8]),
+        (93, [258, 0, 0, 0]),
+    ] {
+        code.extend_from_slice(&sys_words(number, args))?;
+    }
+    assert!(rt; code.len() <= 10_000);
+    let image = sheet(alloc, &code)?;
+    let text = b"run 1\n\
+call 1 64 1 131072 0 0 = 0 0\n\
+call 1 64 1 4 1 0 = 14 0\n\
+call 1 64 7 131072 1 0 = 9 0\n\
+call 1 64 2 131072 3 0 = 0 3\n\
+out 1 2 000000\n\
+call 1 17 0 0 0 0 = 38 0\n\
+call 1 300 5 6 7 8 = 38 0\n\
+call 1 93 258 0 0 0 = end\n\
+end exit 2\n";
+    check(&rt, alloc, &given(&image, EMPTY, Status::Ran, text, b""))
+}
+
+#[test]
+fn failing_loads_and_puts(rt: HostRuntime) -> Result<(), Fail> {
+    let alloc = rt.alloc();
+    let loads: [(&[u32], &[u8]); 2] = [
+        (&[1], b"fsu_replay: cannot read image\n"),
+        (&[2], b"fsu_replay: cannot read journal\n"),
+    ];
+    for (failing_loads, err) in loads {
+        let failed = Case {
+            failing_loads,
+            ..given(&SMALLEST, EMPTY, Status::ReadFault, b"", err)
+        };
+        check(&rt, alloc, &failed)?;
+    }
+    // the lines of the text go out in seven puts, the out line in three of them
+    let fronts = [0usize, 6, 34, 42, 46, 47, 75];
+    for put in 1..=7u32 {
+        for taken in [0u32, 1] {
+            let Some(before) = fronts.get(put as usize - 1) else {
+                return Ok(());
+            };
+            let Some(front) = SMALLEST_TEXT.get(..*before + taken as usize) else {
+                return Ok(());
+            };
+            let failed = Case {
+                failing_puts: &[(put, taken)],
+                ..given(
+                    &SMALLEST,
+                    EMPTY,
+                    Status::WriteFault,
+                    front,
+                    b"fsu_replay: cannot write\n",
+                )
+            };
+            check(&rt, alloc, &failed)?;
+        }
+    }
+    Ok(())
+}
