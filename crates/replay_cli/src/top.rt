@@ -1,7 +1,7 @@
 ghost use Rattle.std.specs.Prelude.{◌≡◌, ◌≢◌, ◌<◌, ◌≤◌, ◌⊎◌, ◌↔◌, ◌+◌, true, false, [], length, slice_index_or, take, IfSome, IfOk, IfErr, OnOk, List, ℕ, Option, Some, None};
 ghost use Rattle.elf_image.specs.Refusal.{first_refusal};
 ghost use Rattle.replay_io.specs.Writing.{Rose};
-ghost use Rattle.process_engine.specs.Single.{moment_of};
+ghost use Rattle.posix_model.specs.Start as machine;
 ghost use Rattle.replay_cli.specs.Words.{are_accepted, image_name, journal_name};
 ghost use Rattle.replay_cli.specs.Journal.{first_bad};
 ghost use Rattle.replay_cli.specs.Failures.{status_of};
@@ -11,6 +11,7 @@ ghost use Rattle.replay_cli.specs.Causes.{IsImage, IsJournal, ImageCause, Journa
 use crate::accepted::are_accepted;
 use crate::failure::{Failure, Status};
 use crate::journal::check_journal;
+use elf_image::EntryPoint;
 use posix_model::Settings;
 use process_engine::{Process, WriteFault};
 use replay_io::{Files, LoadRefusal, Sink, Words};
@@ -41,10 +42,16 @@ fn load_file<F: Files>(alloc: Global, name: &str, files: &mut F) -> Result<Vec<u
     files.load(alloc, name, MOST)
 }
 
-/// The process of an image, or why there is none.
-fn accept_image<F: Files>(alloc: Global, name: &str, files: &mut F) -> Result<Process, Failure>
-    ensures settings { IfOk result (λ p. p.settings ≡ default_settings) }
-    ensures start { IfOk result (λ p. IfSome (F.content files.old name.now) (λ image. IsStartOf (loaded image) (moment_of p))) }
+/// An image in its window of memory, and where its program begins.
+#[derive(Drop)]
+struct Program {
+    mem: Memory,
+    entry: EntryPoint,
+}
+
+/// The program of an image, or why there is none.
+fn accept_image<F: Files>(alloc: Global, name: &str, files: &mut F) -> Result<Program, Failure>
+    ensures start { IfOk result (λ p. IfSome (F.content files.old name.now) (λ image. IsStartOf (loaded image) (machine.start p.mem p.entry.0))) }
     ensures cause { IfErr result (ImageCause (F.content files.old name.now) (F.faults files.old name.now) (F.faults files.new name.now)) }
     ensures same { (n : List ℕ) → F.content files.new n ≡ F.content files.old n }
     ensures later { (n : List ℕ) → F.faults files.old n ≤ F.faults files.new n }
@@ -57,13 +64,9 @@ fn accept_image<F: Files>(alloc: Global, name: &str, files: &mut F) -> Result<Pr
     let Ok(mut mem) = Memory::new(alloc, MEMORY) else {
         return Err(Failure::Memory);
     };
-    let entry = match elf_image::load(&image, &mut mem) {
-        Ok(entry) => entry,
-        Err(refusal) => return Err(Failure::Image(refusal)),
-    };
-    match Process::new(alloc, mem, entry, SETTINGS) {
-        Ok(process) => Ok(process),
-        Err(_) => Err(Failure::Memory),
+    match elf_image::load(&image, &mut mem) {
+        Ok(entry) => Ok(Program { mem, entry }),
+        Err(refusal) => Err(Failure::Image(refusal)),
     }
 }
 
@@ -104,14 +107,17 @@ fn attempt<F: Files, O: Sink>(
     if !are_accepted(words) {
         return Err(Failure::Words);
     }
-    let process = match accept_image(alloc, words.word(0), files) {
-        Ok(process) => process,
+    let program = match accept_image(alloc, words.word(0), files) {
+        Ok(program) => program,
         Err(failure) => return Err(failure),
     };
     match accept_journal(alloc, words.word(1), files) {
         Ok(()) => {}
         Err(failure) => return Err(failure),
     }
+    let Ok(process) = Process::new(alloc, program.mem, program.entry, SETTINGS) else {
+        return Err(Failure::Memory);
+    };
     match process.run(out, Mode::Trace) {
         Ok(_) => Ok(()),
         Err(WriteFault) => Err(Failure::Output),
