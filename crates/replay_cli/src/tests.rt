@@ -48,6 +48,11 @@ fn given<'a>(
     }
 }
 
+/// A case whose image is refused with this line.
+fn refused<'a>(image: &'a [u8], err: &'a [u8]) -> Case<'a> {
+    given(image, EMPTY, Status::Image, b"", err)
+}
+
 /// Replays a case over memory, and compares status, output and the line that tells why.
 fn check(rt: &impl Abort, alloc: Global, case: &Case<'_>) -> Result<(), Fail> {
     let mut words = Words::new(alloc);
@@ -160,7 +165,6 @@ fn refused_images(rt: HostRuntime) -> Result<(), Fail> {
     let small = changed(alloc, &[(72, 121)])?;
     let low = changed(alloc, &[(60, 0xfc), (61, 0xff), (62, 0)])?;
     let flags = changed(alloc, &[(36, 1)])?;
-    let refused = |image, err| given(image, EMPTY, Status::Image, b"", err);
     check(
         &rt,
         alloc,
@@ -310,7 +314,7 @@ fn failing_loads_and_puts(rt: HostRuntime) -> Result<(), Fail> {
             let Some(before) = fronts.get(put as usize - 1) else {
                 return Ok(());
             };
-            let Some(front) = SMALLEST_TEXT.get(..*before + taken as usize) else {
+            let Some(front) = SMALLEST_TEXT.get(..before.saturating_add(taken as usize)) else {
                 return Ok(());
             };
             let failed = Case {
