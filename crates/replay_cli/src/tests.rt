@@ -252,45 +252,90 @@ fn endings(rt: HostRuntime) -> Result<(), Fail> {
         &rt,
         alloc,
         &given(&endless, EMPTY, Status::Ran, b"run 1\nend budget\n", b""),
-    )?;
-    // a return from the first routine, which is not due yet
-    let returned = changed(alloc, &[(84, 0x67), (85, 0x80), (86, 0), (87, 0)])?;
-    let not_due = b"run 1\nfault 1 11\ndeliver 1 11 1\nend killed 11\n";
-    check(
-        &rt,
-        alloc,
-        &given(&returned, EMPTY, Status::Ran, not_due, b""),
     )
 }
 
-#[test]
-fn calls(rt: HostRuntime) -> Result<(), Fail> {
-    let alloc = rt.alloc();
+/// An item of a sheet program.
+#[derive(Clone, Copy)]
+enum Item {
+    /// A call: its number, and a0 to a3.
+    Sys(u32, [u32; 4]),
+    /// A return to the address in ra.
+    Ret,
+    /// A label: the next item stands at this address.
+    At(u32),
+}
+
+/// A row: a program, item by item, and the text of its run under the journal of the header alone.
+#[derive(Clone, Copy)]
+struct Row<'a> {
+    items: &'a [Item],
+    text: &'a [u8],
+}
+
+/// The sheet of a program; each label has to stand where it says.
+fn assembled(rt: &impl Abort, alloc: Global, items: &[Item]) -> Result<Vec<u8>, Fail> {
     let mut code = Vec::new(alloc);
-    for (number, args) in [
-        (64, [1, 131_072, 0, 0]),
-        (64, [1, 4, 1, 0]),
-        (64, [7, 131_072, 1, 0]),
-        (64, [2, 131_072, 3, 0]),
-        (17, [0, 0, 0, 0]),
-        (300, [5, 6, 7, 8]),
-        (93, [258, 0, 0, 0]),
-    ] {
-        code.extend_from_slice(&sys_words(number, args))?;
+    for item in items {
+        match item {
+            Item::Sys(number, args) => code.extend_from_slice(&sys_words(*number, *args))?,
+            Item::Ret => code.push(0x0000_8067)?,
+            Item::At(address) => {
+                let here = code.len().saturating_mul(4).saturating_add(65_620);
+                assert_eq!(rt; here, *address as usize);
+            }
+        }
     }
     assert!(rt; code.len() <= 10_000);
-    let image = sheet(alloc, &code)?;
-    let text = b"run 1\n\
+    Ok(sheet(alloc, &code)?)
+}
+
+/// Replays a row.
+fn check_row(rt: &impl Abort, alloc: Global, row: &Row<'_>) -> Result<(), Fail> {
+    let image = assembled(rt, alloc, row.items)?;
+    check(rt, alloc, &given(&image, EMPTY, Status::Ran, row.text, b""))
+}
+
+#[test]
+fn rows_of_sheets(rt: HostRuntime) -> Result<(), Fail> {
+    let alloc = rt.alloc();
+    // empty writes, refusals in their order, numbers without a call, an exit of more than a byte
+    let calls = Row {
+        items: &[
+            Item::At(65_620),
+            Item::Sys(64, [1, 131_072, 0, 0]),
+            Item::At(65_664),
+            Item::Sys(64, [1, 4, 1, 0]),
+            Item::Sys(64, [7, 131_072, 1, 0]),
+            Item::Sys(64, [7, 4, 1, 0]),
+            Item::Sys(64, [2, 131_072, 3, 0]),
+            Item::Sys(17, [0, 0, 0, 0]),
+            Item::Sys(300, [5, 6, 7, 8]),
+            Item::Sys(93, [258, 0, 0, 0]),
+        ],
+        text: b"run 1\n\
 call 1 64 1 131072 0 0 = 0 0\n\
 call 1 64 1 4 1 0 = 14 0\n\
 call 1 64 7 131072 1 0 = 9 0\n\
+call 1 64 7 4 1 0 = 9 0\n\
 call 1 64 2 131072 3 0 = 0 3\n\
 out 1 2 000000\n\
 call 1 17 0 0 0 0 = 38 0\n\
 call 1 300 5 6 7 8 = 38 0\n\
 call 1 93 258 0 0 0 = end\n\
-end exit 2\n";
-    check(&rt, alloc, &given(&image, EMPTY, Status::Ran, text, b""))
+end exit 2\n",
+    };
+    check_row(&rt, alloc, &calls)?;
+    // a return from the first routine, which is not due yet
+    let returned = Row {
+        items: &[Item::Sys(260, [0, 0, 0, 0]), Item::Ret],
+        text: b"run 1\n\
+call 1 260 0 0 0 0 = 38 0\n\
+fault 1 11\n\
+deliver 1 11 1\n\
+end killed 11\n",
+    };
+    check_row(&rt, alloc, &returned)
 }
 
 #[test]
