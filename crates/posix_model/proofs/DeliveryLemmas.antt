@@ -1,12 +1,12 @@
 -- The next delivery and what is left, where nothing pends and where one signal pends.
-use Rattle.std.proofs.Common.{◌≡◌, ◌≢◌, ◌∙◌, ap, sym, refl, ℕ, zero, suc, ◌+◌, ◌<◌, ◌≤◌, true, ltb, List, [], ◌∷◌, Option, Some, None, arith, find}
+use Rattle.std.proofs.Common.{◌≡◌, ◌≢◌, ◌∙◌, ap, refl, ℕ, zero, suc, ◌+◌, ◌<◌, ◌≤◌, ltb, List, [], ◌∷◌, Some, None, arith, find}
 use Rattle.std.specs.Prelude.{is_some, map, sum, fold, replicate}
 use Rattle.std.specs.List.{range_with_len}
 use Rattle.std.proofs.lemmas.Bool.{lt-ltb}
 use Rattle.thread_base.specs.Priority.{tids}
 use Rattle.thread_base.proofs.SearchLemmas.{find_only, find_nowhere}
 use Rattle.posix_model.specs.State.{State}
-use Rattle.posix_model.specs.Deliveries.{Delivery, delivery_of, delivery_to, next_delivery, lowest_pending, signals}
+use Rattle.posix_model.specs.Deliveries.{delivery_of, delivery_to, next_delivery, lowest_pending, signals}
 use Rattle.posix_model.specs.Lines.{sig_numbers}
 use Rattle.posix_model.specs.Trace.{left, left_of}
 

@@ -9,3 +9,4 @@ pub mod Runs
 pub mod Lines
 pub mod Trace
 pub mod Start
+pub mod Laws

@@ -2,7 +2,6 @@
 use Rattle.std.specs.Prelude.{ℕ, ◌==◌, ◌≡◌, ◌⊎◌, Bool, false, if◌then◌else◌, List, [], ◌∷◌, ◌++◌, map, sum, Option, Some, None}
 use Rattle.thread_base.specs.Priority.{tids}
 use Rattle.posix_model.specs.State.{State}
-use Rattle.posix_model.specs.Changes.{Made}
 use Rattle.posix_model.specs.Runs.{Moment, make, moved, after, IsRun, Ends}
 use Rattle.posix_model.specs.Lines.{lines, run_line, end_lines, sig_numbers}
 use Rattle.posix_model.specs.declared.Settings.{Settings}

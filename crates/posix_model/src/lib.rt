@@ -3,6 +3,7 @@
 
 ghost use Rattle.std.specs.Prelude.{◌≡◌};
 ghost use Rattle.posix_model.specs.Reports.{nothing_told};
+ghost use Rattle.posix_model.specs.Laws.{OneRun, Progress, Completion};
 
 use rv_exec::Special;
 use thread_base::{Place, Sig, Tid};
@@ -154,3 +155,18 @@ impl Report {
         }
     }
 }
+
+/// The law of one list: under the same settings one start has one whole run, with one ending.
+pub fn one_run()
+    ensures { OneRun }
+{}
+
+/// The law of progress: within the budget a run has ended, or a move is allowed.
+pub fn progress()
+    ensures { Progress }
+{}
+
+/// Within the budget every run so far goes on to a whole run.
+pub fn completion()
+    ensures { Completion }
+{}

@@ -1,18 +1,18 @@
 -- A run so far whose text was written, one move more, and its end.
-use Rattle.std.proofs.Common.{◌≡◌, ◌∙◌, ap, sym, refl, subst, ℕ, ◌<◌, List, [], ◌∷◌, ◌++◌, Option, Some, append-nil, append_assoc, inl, inr, arith, Result, Ok, Err, true, false}
+use Rattle.std.proofs.Common.{◌≡◌, ◌∙◌, ap, sym, refl, subst, ℕ, ◌≤◌, List, [], ◌∷◌, ◌++◌, Option, Some, append-nil, append_assoc, inl, inr, Result, Ok, Err, true, false}
 use Rattle.replay_io.specs.Writing.{WritesWhole, WritesFront}
-use Rattle.replay_io.proofs.WritingLemmas.{writes_nothing, whole_then_whole, whole_then_front}
-use Rattle.posix_model.specs.Changes.{Made}
+use Rattle.replay_io.proofs.WritingLemmas.{writes_nothing, whole_then_whole, whole_then_front, front_of_more}
 use Rattle.posix_model.specs.Runs.{Moment, Allowed, IsRun, Ends, make, moved, after}
-use Rattle.posix_model.specs.Lines.{lines, end_lines}
-use Rattle.posix_model.specs.Trace.{text, move_text, switch_line, switch_text, end_text, left, IsText, IsWholeText}
+use Rattle.posix_model.specs.Lines.{lines}
+use Rattle.posix_model.specs.Trace.{text, move_text, switch_line, switch_text, end_text, IsText}
 use Rattle.posix_model.specs.declared.Settings.{Settings}
 use Rattle.posix_model.specs.declared.Move.{Move}
 use Rattle.posix_model.specs.declared.Move.TheVariants.{Instr, Arrive, Deliver}
 use Rattle.posix_model.specs.declared.Ending.{Ending}
 use Rattle.posix_model.specs.declared.Report.{Report}
 use Rattle.posix_model.proofs.TraceLemmas.{IsRun-more, after-more, text-more, IsRun-append, after-append, text-append, switch_line-text, no_switch}
-use Rattle.process_engine.specs.Turns.{IsTurn, Runs, RunsWhole, RunsFront}
+use Rattle.posix_model.proofs.RunLaws.{whole_of_part}
+use Rattle.process_engine.specs.Turns.{IsTurn, Goes, RunsWhole, RunsPart, RunsFront}
 use Rattle.process_engine.specs.declared.Turn.{Turn}
 use Rattle.process_engine.specs.declared.Turn.TheVariants.{Quiet, Made as MadeTurn}
 use Rattle.std.specs.Result.{IsErr}
@@ -62,7 +62,7 @@ module _ (settings : Settings) (start now : Moment) (move : Move) (a b c : Optio
   }
 
   -- a move is made and its text fails
-  pub one_made_fails : WritesFront b c g h all → RunsFront settings start a c f h
+  pub one_made_fails : WritesFront b c g h all → RunsPart settings start a c f h
   one_made_fails w = record {
     trace = text start (so_far.moves ++ move ∷ []);
     part = record {
@@ -89,7 +89,7 @@ module _ (settings : Settings) (start now new : Moment) (a b c : Option (List �
       one_more_made settings start now t.0 a b c f g h _ so_far t.1 (no_text now new t.0 t.2 t.3) new t.2
       (subst (λ (o : Option ℕ). WritesWhole b c g h (switch_text o new.last)) same w)
 
-  pub quiet_fails : IsTurn settings now Quiet new → WritesFront b c g h (switch_text before new.last) → RunsFront settings start a c f h
+  pub quiet_fails : IsTurn settings now Quiet new → WritesFront b c g h (switch_text before new.last) → RunsPart settings start a c f h
   quiet_fails t w =
       one_made_fails settings start now t.0 a b c f g h _ so_far t.1 (no_text now new t.0 t.2 t.3)
       (subst (λ (o : Option ℕ). WritesFront b c g h (switch_text o new.last)) same w)
@@ -102,13 +102,13 @@ module _ (settings : Settings) (start now new : Moment) (a b c : Option (List �
       (subst (λ (o : Option ℕ). WritesWhole b c g h (switch_text o new.last ++ lines report new.state.memory)) same w)
 
   pub made_fails : (report : Report) → IsTurn settings now (MadeTurn report) new
-      → WritesFront b c g h (switch_text before new.last ++ lines report new.state.memory) → RunsFront settings start a c f h
+      → WritesFront b c g h (switch_text before new.last ++ lines report new.state.memory) → RunsPart settings start a c f h
   made_fails report t w =
       one_made_fails settings start now t.0 a b c f g h _ so_far t.1 (told now t.0 report new t.2 t.3)
       (subst (λ (o : Option ℕ). WritesFront b c g h (switch_text o new.last ++ lines report new.state.memory)) same w)
 
 -- what the loop says at its exits
-pub runs_err : {E : Type 0} (settings : Settings) (start : Moment) (r : Result Done E) (a b : Option (List ℕ)) (f g : ℕ) → IsErr r → RunsFront settings start a b f g → Runs settings start r a b f g
+pub runs_err : {E : Type 0} (settings : Settings) (start : Moment) (r : Result Done E) (a b : Option (List ℕ)) (f g : ℕ) → IsErr r → RunsPart settings start a b f g → Goes settings start r a b f g
 runs_err settings start (Ok u) a b f g h p = absurd (let e : false ≡ true = h in cc)
 runs_err settings start (Err e) a b f g h p = p
 
@@ -136,7 +136,7 @@ module _ (settings : Settings) (start now : Moment) (ending : Ending) (a b c : O
   }
 
   -- the end fails
-  pub ended_fails : WritesFront b c g h (end_text now ending) → RunsFront settings start a c f h
+  pub ended_fails : WritesFront b c g h (end_text now ending) → RunsPart settings start a c f h
   ended_fails w = record {
     trace = text start so_far.moves ++ end_text (after start so_far.moves) ending;
     part = record { moves = so_far.moves; run = so_far.run; told = inr (ending, ends_here, refl) };
@@ -185,20 +185,31 @@ module _ (settings : Settings) (start now : Moment) (a b c : Option (List ℕ)) 
     ];
   }
 
-  runs_front : RunsFront settings now b c g h → RunsFront settings start a c f h
+  runs_front : RunsPart settings now b c g h → RunsPart settings start a c f h
   runs_front r = record {
     trace = text start so_far.moves ++ r.trace;
     part = part_on r.trace r.part;
     written = whole_then_front a b c f g h (text start so_far.moves) r.trace [] (text start so_far.moves ++ r.trace) so_far.written r.written (append-nil (text start so_far.moves ++ r.trace));
   }
 
-  pub runs_on : {E : Type 0} (result : Result Done E) → Runs settings now result b c g h → Runs settings start result a c f h
+  pub runs_on : {E : Type 0} (result : Result Done E) → Goes settings now result b c g h → Goes settings start result a c f h
   runs_on (Ok done) r = runs_whole done r
   runs_on (Err e) r = runs_front r
 
-pub same_runs : {E : Type 0} (s t : Settings) (start : Moment) (result : Result Done E) (a b : Option (List ℕ)) (f g : ℕ) → s ≡ t → Runs s start result a b f g → Runs t start result a b f g
-same_runs s t start result a b f g e r = subst (λ u. Runs u start result a b f g) e r
+pub same_runs : {E : Type 0} (s t : Settings) (start : Moment) (result : Result Done E) (a b : Option (List ℕ)) (f g : ℕ) → s ≡ t → Goes s start result a b f g → Goes t start result a b f g
+same_runs s t start result a b f g e r = subst (λ u. Goes u start result a b f g) e r
 
 -- a run whose thread stays writes no line for a switch
 pub stays : (now new : Moment) (t : ℕ) → now.last ≡ Some t → new.last ≡ Some t → switch_text now.last new.last ≡ []
 stays now new t e f = ap (λ (o : Option ℕ). switch_text o new.last) e ∙ ap (λ (o : Option ℕ). switch_text (Some t) o) f ∙ no_switch (Some t)
+
+-- what was written of a run so far is a front of the text of a whole run
+pub part_front : (settings : Settings) (start : Moment) (a b : Option (List ℕ)) (f g : ℕ) → start.made ≤ settings.budget → RunsPart settings start a b f g → RunsFront settings start a b f g
+part_front settings start a b f g within r =
+    let whole = whole_of_part settings start r.trace within r.part in
+    record {
+      ending = whole.0;
+      trace = r.trace ++ whole.1;
+      whole = whole.2;
+      written = front_of_more a b f g r.trace whole.1 (r.trace ++ whole.1) r.written refl;
+    }

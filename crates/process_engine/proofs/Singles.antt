@@ -1,25 +1,21 @@
 -- The machine of one thread, after each small change.
-use Rattle.std.proofs.Common.{◌≡◌, ◌≢◌, ◌∙◌, ap, sym, refl, subst, ℕ, ◌+◌, ◌-◌, ◌≤◌, ◌<◌, Bool, true, false, cond, eqb, ltb, List, [], ◌∷◌, ◌++◌, Option, Some, None, arith, find, ne_eqb}
-use Rattle.std.specs.Prelude.{replicate, is_some, IsTrue}
-use Rattle.std.proofs.lemmas.Bool.{eq-eqb}
+use Rattle.std.proofs.Common.{◌≡◌, ◌∙◌, ap, sym, ℕ, ◌+◌, ◌≤◌, false, List, [], ◌∷◌, Option, Some, None, arith}
+use Rattle.std.specs.Prelude.{replicate}
 use Rattle.std.proofs.lemmas.Bool.Decides.{nat_tests}
 use Rattle.thread_base.specs.Maps.{put}
 use Rattle.thread_base.specs.Numbers.{IsInScope}
-use Rattle.thread_base.specs.Priority.{tids}
 use Rattle.thread_base.specs.declared.Policy.TheVariants.{Other}
 use Rattle.thread_base.proofs.MapLemmas.{put-put, put_got, put_same, put_other}
 use Rattle.thread_base.proofs.PriorityLemmas.{first_of_one}
-use Rattle.thread_base.proofs.SearchLemmas.{find_only, find_nowhere}
-use Rattle.posix_model.specs.State.{State, Registers, Thread, Ready, no_thread, none_pending}
+use Rattle.posix_model.specs.State.{Registers, Thread, Ready, no_thread, none_pending}
 use Rattle.posix_model.specs.Changes.{set_registers, answered, reply}
 use Rattle.posix_model.specs.Scheduling.{chosen, eff}
-use Rattle.posix_model.specs.Deliveries.{Delivery, next_delivery, set_pending, faulted, delivered, deliver}
+use Rattle.posix_model.specs.Deliveries.{next_delivery, faulted, delivered, deliver}
 use Rattle.posix_model.proofs.DeliveryLemmas.{next_none, next_one, left_none}
 use Rattle.posix_model.specs.Trace.{left}
 use Rattle.posix_model.specs.Reports.{nothing_told}
 use Rattle.posix_model.specs.declared.Report.{Report}
 use Rattle.posix_model.specs.declared.Head.TheVariants.{Fault, Deliver}
-use Rattle.posix_model.specs.declared.Ending.{Ending}
 use Rattle.posix_model.specs.declared.Ending.TheVariants.{Killed}
 use Rattle.process_engine.specs.Single.{Single, state_of, registers_of, made_of, pending_after}
 

@@ -1,19 +1,18 @@
 -- A turn of the engine is a move of the machine.
-use Rattle.std.proofs.Common.{◌≡◌, ◌≢◌, ◌∙◌, ap, sym, refl, subst, ℕ, ◌+◌, ◌<◌, List, [], Option, Some, None, inl, inr}
-use Rattle.rv_exec.specs.declared.Event.{Event}
+use Rattle.std.proofs.Common.{◌≡◌, ◌∙◌, ap, sym, refl, subst, ℕ, ◌+◌, ◌<◌, List, [], Some, None, inl, inr}
 use Rattle.rv_exec.specs.declared.Event.TheVariants.{Next, Ecall, Fault as FaultEvent, Return as ReturnEvent}
 use Rattle.rv_exec.specs.declared.Special.{Special}
 use Rattle.rv_exec.specs.Meaning.{Effect, Goes, Calls, Faults, Returns, effect}
 use Rattle.rv_exec.specs.Outcome.{HasEffect}
 use Rattle.trace_text.specs.Output.{IsReadable}
 use Rattle.posix_model.specs.State.{State, Registers}
-use Rattle.posix_model.specs.Changes.{Made, set_registers}
+use Rattle.posix_model.specs.Changes.{Made}
 use Rattle.posix_model.specs.Calls.{call, call_number, arguments}
 use Rattle.posix_model.specs.Deliveries.{faulted, deliver}
 use Rattle.posix_model.specs.Instructions.{instruction, by_effect, went_on, segmentation_fault}
 use Rattle.posix_model.specs.Reports.{nothing_told}
-use Rattle.posix_model.specs.Runs.{Moment, Allowed, IsTurnOf, Ends, moved}
-use Rattle.posix_model.specs.Lines.{lines, first_lines, head_line, alarm_line, out_line, signal_lines, took_line, count_lines, sig_numbers, thread_lines, gone_line, done_lines, done_line}
+use Rattle.posix_model.specs.Runs.{IsTurnOf, Ends}
+use Rattle.posix_model.specs.Lines.{lines, head_line, alarm_line, out_line, took_line, count_lines, sig_numbers, gone_line, done_lines, done_line}
 use Rattle.posix_model.specs.declared.Report.{Report}
 use Rattle.posix_model.specs.declared.Head.TheVariants.{Quiet as QuietHead}
 use Rattle.posix_model.specs.declared.Move.TheVariants.{Instr, Deliver}
@@ -27,7 +26,7 @@ use Rattle.process_engine.specs.Advancing.{CanGo, CanTell, IsInCall, IsCounted, 
 use Rattle.process_engine.specs.declared.moves.Cause.{Cause}
 use Rattle.process_engine.specs.declared.moves.Cause.TheVariants.{Call, Fault, Delivery}
 use Rattle.process_engine.specs.declared.moves.Came.{Came}
-use Rattle.process_engine.specs.declared.moves.Came.TheVariants.{Plain, Told, End}
+use Rattle.process_engine.specs.declared.moves.Came.TheVariants.{Told, End}
 use Rattle.process_engine.specs.declared.moves.Standing.{Standing}
 use Rattle.process_engine.specs.declared.moves.Standing.TheVariants.{New, Going, Faulted, Over}
 use Rattle.process_engine.specs.Standings.{last_of, fault_of, over_of, came_of}

@@ -1,5 +1,5 @@
 -- How far the engine has come with a move before its report is made.
-use Rattle.std.specs.Prelude.{ℕ, ◌≡◌, ◌⊎◌, ◌+◌, ◌<◌, Option, Some, None}
+use Rattle.std.specs.Prelude.{ℕ, ◌≡◌, ◌⊎◌, ◌+◌, ◌<◌, Some, None}
 use Rattle.rv_exec.specs.Meaning.{effect}
 use Rattle.rv_exec.specs.Outcome.{HasEffect}
 use Rattle.rv_exec.specs.declared.Event.{Event}

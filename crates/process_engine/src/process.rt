@@ -14,7 +14,7 @@ ghost use Rattle.thread_base.specs.Numbers.{IsInScope};
 ghost use Rattle.rv_exec.specs.Outcome.{HasEffect};
 ghost use Rattle.trace_text.specs.Output.{IsReadable};
 ghost use Rattle.process_engine.specs.Single.{Single, KeepsRest, state_of, moment_of, registers_of, called_of, made_of};
-ghost use Rattle.process_engine.specs.Turns.{IsTurn, Runs};
+ghost use Rattle.process_engine.specs.Turns.{IsTurn, Goes, Runs};
 ghost use Rattle.process_engine.specs.Advancing.{CanGo, CanTell, IsInCall, Advanced, Advances};
 
 use crate::calls::{Answer, MOST_WRITTEN, answer_registers, output};
@@ -370,7 +370,7 @@ impl Process {
     /// Makes the rest of a run that has begun, and writes its text: the thread of the last instruction stays.
     fn run_on<O: Sink>(&mut self, out: &mut O, mode: Mode) -> Result<Done, SinkFailed>
         requires { self.old.last ≡ Some 1 }
-        ensures { Runs self.old.settings (moment_of self.old) result (O.written out.old) (O.written out.new) (O.faults out.old) (O.faults out.new) }
+        ensures { Goes self.old.settings (moment_of self.old) result (O.written out.old) (O.written out.new) (O.faults out.old) (O.faults out.new) }
     {
         loop {
             match self.advance() {
@@ -389,7 +389,7 @@ impl Process {
 
     /// Makes the rest of the run and writes its text.
     fn run_to_end<O: Sink>(&mut self, out: &mut O, mode: Mode) -> Result<Done, SinkFailed>
-        ensures { Runs self.old.settings (moment_of self.old) result (O.written out.old) (O.written out.new) (O.faults out.old) (O.faults out.new) }
+        ensures { Goes self.old.settings (moment_of self.old) result (O.written out.old) (O.written out.new) (O.faults out.old) (O.faults out.new) }
     {
         let before = self.last();
         match self.advance() {
@@ -411,10 +411,12 @@ impl Process {
 
     /// Runs to the end and writes the text of the run. Ok appended the whole text of one ended run and
     /// tells its ending; WriteFault comes only where the sink's count of faults rose in this call, and then
-    /// a front of the text of a run was appended. It takes no memory.
+    /// a front of the whole text of one ended run was appended. It takes no memory.
     pub fn run<O: Sink>(mut self, out: &mut O, mode: Mode) -> Result<Done, WriteFault>
         ensures { Runs self.settings (moment_of self) result (O.written out.old) (O.written out.new) (O.faults out.old) (O.faults out.new) }
     {
+        // opened, so that its count is known to be within the budget
+        let _made = &self.made;
         match self.run_to_end(out, mode) {
             Ok(done) => Ok(done),
             Err(SinkFailed) => Err(WriteFault),

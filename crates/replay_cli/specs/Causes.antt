@@ -1,5 +1,5 @@
 -- Why a replay fails, and what it answers (this project's own rule).
-use Rattle.std.specs.Prelude.{ℕ, ◌≡◌, ◌⊎◌, List, Bool, true, false, Option, Some, None, IfSome}
+use Rattle.std.specs.Prelude.{ℕ, ◌≡◌, ◌⊎◌, List, true, false, Option, Some, None, IfSome}
 use Rattle.elf_image.specs.Refusal.{first_refusal}
 use Rattle.replay_io.specs.Writing.{Rose, WritesWhole, WritesFront}
 use Rattle.replay_cli.specs.Words.{are_accepted, image_name, journal_name}
@@ -9,7 +9,6 @@ use Rattle.replay_cli.specs.Headline.{loaded, memory_size}
 use Rattle.replay_cli.specs.declared.failure.Failure.{Failure}
 use Rattle.replay_cli.specs.declared.failure.Failure.TheVariants.{Words, ImageFile, JournalFile, Image, Journal, Output, Memory}
 use Rattle.replay_cli.specs.declared.failure.Status.{Status}
-use Rattle.replay_cli.specs.declared.failure.Status.TheVariants.{Ran}
 
 -- an image or a journal, where its content is told, is accepted
 abbrev pub IsImage : Option (List ℕ) → Type 0

@@ -5,7 +5,7 @@ use Rattle.elf_image.specs.Refusal.{first_refusal}
 use Rattle.replay_io.specs.Writing.{Appended, AppendedFront}
 use Rattle.posix_model.specs.Runs.{Moment}
 use Rattle.posix_model.specs.Start as machine
-use Rattle.posix_model.specs.Trace.{IsText, IsWholeText}
+use Rattle.posix_model.specs.Trace.{IsWholeText}
 use Rattle.posix_model.specs.declared.Settings.{Settings}
 use Rattle.posix_model.specs.declared.Ending.{Ending}
 
@@ -38,10 +38,11 @@ pub record WritesRunOf (image : List ℕ) (before after : Option (List ℕ)) : T
   pub whole : IsWholeText default_settings start ending trace
   pub told : Appended before after trace
 
--- a front of the text of a run from an image came behind what was written before
+-- a front of the text of one whole run from an image came behind what was written before
 pub record WritesFrontOf (image : List ℕ) (before after : Option (List ℕ)) : Type 0 where
   pub start : Moment
   pub of_image : IsStartOf image start
+  pub ending : Ending
   pub trace : List ℕ
-  pub part : IsText default_settings start trace
+  pub whole : IsWholeText default_settings start ending trace
   pub told : AppendedFront before after trace

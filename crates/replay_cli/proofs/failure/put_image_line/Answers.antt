@@ -1,4 +1,4 @@
-use Rattle.std.proofs.Common.{◌≡◌, sym, ap}
+use Rattle.std.proofs.Common.{sym, ap}
 use Rattle.std.specs.Prelude.{codes}
 use Rattle.replay_cli.specs.Failures.{image_line}
 use Rattle.replay_cli.proofs.FailureLines.{told, indexed}

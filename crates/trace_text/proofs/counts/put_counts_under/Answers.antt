@@ -1,7 +1,7 @@
-use Rattle.std.proofs.Common.{◌≡◌, ◌+◌, arith}
+use Rattle.std.proofs.Common.{arith}
 use Rattle.posix_model.specs.Lines.{count_line, count_lines, sig_numbers}
 use Rattle.replay_io.proofs.WritingLemmas.{none_yet, one_more, one_fails, all_written, writes_err}
-use Rattle.trace_text.proofs.Loops.{parts_from, parts_at_first, parts_next, parts_done}
+use Rattle.trace_text.proofs.Loops.{parts_at_first, parts_next, parts_done}
 use Rattle.trace_text.proofs.counts.put_counts_under.Goals as goal
 
 pub loop-sig-init : goal.loop-sig-init

@@ -1,4 +1,4 @@
-use Rattle.std.proofs.Common.{arith, ◌+◌, ◌≡◌, ◌-◌}
+use Rattle.std.proofs.Common.{arith, ◌+◌, ◌-◌}
 use Rattle.replay_io.proofs.WritingLemmas.{one_more, one_fails, writes_err}
 use Rattle.trace_text.proofs.Loops.{hex_piece}
 use Rattle.trace_text.proofs.output.put_hex.Goals as goal

@@ -1,4 +1,4 @@
-use Rattle.std.proofs.Common.{◌≡◌, ◌+◌, arith}
+use Rattle.std.proofs.Common.{arith}
 use Rattle.thread_base.specs.Priority.{tids}
 use Rattle.posix_model.specs.Lines.{done_line, done_lines}
 use Rattle.replay_io.proofs.WritingLemmas.{none_yet, one_more, one_fails, all_written, writes_err}

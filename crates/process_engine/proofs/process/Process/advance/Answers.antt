@@ -1,4 +1,4 @@
-use Rattle.std.proofs.Common.{◌≡◌, ◌∙◌, ap, sym, refl, ℕ, Option}
+use Rattle.std.proofs.Common.{◌∙◌, ap, sym, refl}
 use Rattle.process_engine.specs.Single.{Single}
 use Rattle.process_engine.proofs.TurnLemmas.{waits, goes, budget_ends}
 use Rattle.process_engine.proofs.process.Process.advance.Goals as goal

@@ -1,4 +1,4 @@
-use Rattle.std.proofs.Common.{◌≡◌, ◌∙◌, ap, sym, Some, None}
+use Rattle.std.proofs.Common.{◌∙◌, ap, sym, Some, None}
 use Rattle.posix_model.specs.declared.Report.{Report}
 use Rattle.posix_model.specs.declared.Head.TheVariants.{Deliver}
 use Rattle.posix_model.specs.declared.Ending.TheVariants.{Killed}

@@ -1,4 +1,4 @@
-use Rattle.std.proofs.Common.{◌≡◌, ◌∙◌, ap, sym, Some}
+use Rattle.std.proofs.Common.{◌∙◌, ap, sym, Some}
 use Rattle.posix_model.specs.declared.Report.{Report}
 use Rattle.posix_model.specs.declared.Head.TheVariants.{Fault}
 use Rattle.process_engine.specs.Single.{Single, made_of}

@@ -6,7 +6,7 @@ use Rattle.posix_model.specs.Lines.{lines, end_lines}
 use Rattle.posix_model.specs.Trace.{left, end_text}
 use Rattle.process_engine.specs.declared.Turn.TheVariants.{Quiet, Made}
 use Rattle.process_engine.specs.Single.{Single, state_of, moment_of}
-use Rattle.process_engine.proofs.TurnLemmas.{can_tell, same_settings}
+use Rattle.process_engine.proofs.TurnLemmas.{same_settings}
 use Rattle.process_engine.proofs.RunLemmas.{quiet_more, made_more, made_fails, ended_whole, ended_fails, runs_err, same_turn, same_ends, stays}
 use Rattle.process_engine.proofs.process.Process.run_on.Goals as goal
 

@@ -1,12 +1,7 @@
-use Rattle.std.proofs.Common.{◌≡◌, ◌∙◌, ap, sym, subst, refl, ℕ, List, ◌++◌}
-use Rattle.replay_io.specs.Writing.{WritesWhole, WritesFront}
-use Rattle.replay_io.proofs.WritingLemmas.{writes_nothing}
+use Rattle.std.proofs.Common.{◌∙◌}
 use Rattle.posix_model.specs.Runs.{Moment}
-use Rattle.posix_model.specs.Lines.{lines, end_lines}
-use Rattle.posix_model.specs.Trace.{left, end_text}
-use Rattle.process_engine.specs.declared.Turn.TheVariants.{Quiet, Made}
-use Rattle.process_engine.specs.Single.{Single, state_of, moment_of}
-use Rattle.process_engine.proofs.TurnLemmas.{can_tell, same_settings}
+use Rattle.process_engine.specs.Single.{moment_of}
+use Rattle.process_engine.proofs.TurnLemmas.{same_settings}
 use Rattle.process_engine.proofs.RunLemmas.{none_made, quiet_more, quiet_fails, made_more, made_fails, runs_err, runs_on, same_runs}
 use Rattle.process_engine.proofs.process.Process.run_to_end.Goals as goal
 

@@ -1,4 +1,4 @@
-use Rattle.std.proofs.Common.{◌≡◌, ◌∙◌, ap, sym, subst, inl, inr}
+use Rattle.std.proofs.Common.{◌∙◌, ap, subst}
 use Rattle.posix_model.specs.Deliveries.{deliver}
 use Rattle.process_engine.specs.Single.{Single, state_of}
 use Rattle.process_engine.specs.Advancing.{Advanced}

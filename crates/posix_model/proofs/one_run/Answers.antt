@@ -1,0 +1,5 @@
+use Rattle.posix_model.proofs.RunLaws.{one_run}
+use Rattle.posix_model.proofs.one_run.Goals as goal
+
+pub returns : goal.returns
+returns c = one_run
