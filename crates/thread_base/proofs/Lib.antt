@@ -2,3 +2,5 @@ pub mod MapLemmas
 pub mod OrderLemmas
 pub mod PriorityLemmas
 pub mod SearchLemmas
+pub mod ReachLemmas
+pub mod SetLemmas

@@ -1,6 +1,6 @@
 -- Lists of threads after a push or a removal, and how long they are.
-use Rattle.std.proofs.Common.{◌≡◌, ℕ, Bool, true, false, cond, refl, sym, ◌∙◌, inl, inr, eqb, arith, List, [], ◌∷◌, ◌++◌, ◌<◌, ◌≤◌, length, ◌||◌, filter}
-use Rattle.std.proofs.lemmas.Bool.{ne_eqb, eqb-true, eqb-false, cases_Bool}
+use Rattle.std.proofs.Common.{◌≡◌, ◌≢◌, ℕ, Bool, true, false, cond, refl, sym, ap, subst, ◌∙◌, inl, inr, eqb, arith, List, [], ◌∷◌, ◌++◌, ◌<◌, ◌≤◌, length, ◌||◌, filter}
+use Rattle.std.proofs.lemmas.Bool.{eq-eqb, ne_eqb, eqb-true, eqb-false, cases_eq, cases_Bool}
 use Rattle.std.proofs.lemmas.List.Folds.{list_any-append}
 use Rattle.std.proofs.lemmas.Map.Steps.{length-le_from_distinct_below}
 use Rattle.std.specs.List.{IsDistinct, AllByRecursion}
@@ -90,3 +90,53 @@ room ts t h a b n =
           | inl is ↦ let same = eqb-true q 0 is in omega arith
           | inr un ↦ let w = within (t ∷ ts) q (a, b, n, h) (rw un at e) in omega arith
         ]
+
+-- another thread stays where one is taken out
+pub is_in-without : (t u : ℕ) (ts : List ℕ) → u ≢ t → is_in u (without t ts) ≡ is_in u ts
+is_in-without t u [] n = refl
+is_in-without t u (v ∷ vs) n =
+    elim (cases_Bool (eqb v t)) [
+      | inl same ↦
+          (let e = eqb-true v t same in
+          let no_match : eqb u v ≡ false = ne_eqb u v (λ f. n (f ∙ e)) in
+          rw same (is_in-without t u vs n ∙ sym (ap (λ b. b || is_in u vs) no_match)))
+      | inr other ↦ rw other (ap (λ b. eqb u v || b) (is_in-without t u vs n))
+    ]
+
+-- to take out a thread that is not there changes nothing
+pub without_absent : (t : ℕ) (ts : List ℕ) → is_in t ts ≡ false → without t ts ≡ ts
+without_absent t [] h = refl
+without_absent t (u ∷ us) h =
+    let a = or_false (eqb t u) (is_in t us) h in
+    rw (eqb_comm t u a.0) (ap (λ vs. u ∷ vs) (without_absent t us a.1))
+
+either_true : (a b : Bool) → b ≡ true → a || b ≡ true
+either_true true b h = refl
+either_true false b h = h
+
+or_nothing : (a : Bool) → a || (false || false) ≡ a
+or_nothing true = refl
+or_nothing false = refl
+
+-- a thread that is put behind a list is in it
+pub is_in-pushed : (t : ℕ) (ts : List ℕ) → is_in t (ts ++ t ∷ []) ≡ true
+is_in-pushed t ts =
+    list_any-append (λ v. eqb t v) ts (t ∷ [])
+    ∙ either_true (is_in t ts) (eqb t t || false) (ap (λ b. b || false) (eq-eqb t t refl))
+
+-- and another is in it where it was
+pub is_in-push : (t u : ℕ) (ts : List ℕ) → u ≢ t → is_in u (ts ++ t ∷ []) ≡ is_in u ts
+is_in-push t u ts n =
+    list_any-append (λ v. eqb u v) ts (t ∷ [])
+    ∙ ap (λ b. is_in u ts || (b || false)) (ne_eqb u t n)
+    ∙ or_nothing (is_in u ts)
+
+-- a move to the end changes no membership
+pub is_in-to_end : (t u : ℕ) (ts : List ℕ) → is_in t ts ≡ true → is_in u (without t ts ++ t ∷ []) ≡ is_in u ts
+is_in-to_end t u ts h =
+    elim (cases_eq u t) [
+      | inl same ↦
+          (let here : is_in t (without t ts ++ t ∷ []) ≡ is_in t ts = is_in-pushed t (without t ts) ∙ sym h in
+          subst (λ v. is_in v (without t ts ++ t ∷ []) ≡ is_in v ts) (sym same) here)
+      | inr other ↦ is_in-push t u (without t ts) other ∙ is_in-without t u ts other
+    ]

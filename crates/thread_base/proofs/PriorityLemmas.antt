@@ -1,7 +1,7 @@
 -- The first of the greatest, as a loop from the front finds it.
-use Rattle.std.proofs.Common.{◌≡◌, ℕ, Bool, true, false, cond, refl, sym, ap, ◌∙◌, inl, inr, ltb, eqb, arith, List, [], ◌∷◌, ◌++◌, ◌<◌, max, Option, Some, None, find, ◌||◌}
+use Rattle.std.proofs.Common.{◌≡◌, ℕ, Bool, true, false, cond, refl, sym, ap, ◌∙◌, inl, inr, ltb, eqb, arith, List, [], ◌∷◌, ◌++◌, ◌<◌, ◌≤◌, max, Option, Some, None, find, ◌||◌}
 use Rattle.thread_base.specs.Orders.{is_in}
-use Rattle.std.proofs.lemmas.Bool.{eq-eqb, ne_eqb, cases_lt, cases_Bool, lt-ltb, le-ltb}
+use Rattle.std.proofs.lemmas.Bool.{eq-eqb, eqb-true, ne_eqb, cases_lt, cases_Bool, lt-ltb, le-ltb}
 use Rattle.std.proofs.lemmas.List.Folds.{find-append}
 use Rattle.std.specs.Option.{option_or}
 use Rattle.thread_base.specs.Priority.{greatest, first_greatest}
@@ -91,3 +91,20 @@ first_in p xs x e = found_in (λ y. eqb (p y) (greatest p xs)) xs x e
 -- of one thread alone, it is the first
 pub first_of_one : (p : ℕ → ℕ) (x : ℕ) → first_greatest p (x ∷ []) ≡ Some x
 first_of_one p x = rw (eq-eqb (p x) (max (p x) 0) (omega arith)) refl
+
+-- no member has a greater key than the greatest
+pub greatest_above : (p : ℕ → ℕ) (xs : List ℕ) (x : ℕ) → is_in x xs ≡ true → p x ≤ greatest p xs
+greatest_above p [] x h = let e : false ≡ true = h in cc
+greatest_above p (y ∷ ys) x h =
+    elim (cases_Bool (eqb x y)) [
+      | inl same ↦ (let e : p x ≡ p y = ap p (eqb-true x y same) in omega (arith, e))
+      | inr other ↦ (let rest = greatest_above p ys x (rw other at h) in omega (arith, rest))
+    ]
+
+-- of a list with a member, some member has the greatest key
+pub greatest_at : (p : ℕ → ℕ) (y : ℕ) (ys : List ℕ) → (a : ℕ) × (is_in a (y ∷ ys) ≡ true) × (p a ≡ greatest p (y ∷ ys))
+greatest_at p y ys = let a = attained p y ys in (a.0, first_in p (y ∷ ys) a.0 a.1, a.2)
+
+-- of a list with a member there is a first of the greatest
+pub first_some : (p : ℕ → ℕ) (y : ℕ) (ys : List ℕ) → (a : ℕ) × (first_greatest p (y ∷ ys) ≡ Some a)
+first_some p y ys = let a = attained p y ys in (a.0, a.1)

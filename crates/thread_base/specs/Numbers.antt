@@ -1,5 +1,6 @@
 -- The ranges of numbers, and the numbers of names.
-use Rattle.std.specs.Prelude.{ℕ, ◌≤◌, ◌==◌, ◌&&◌, ◌||◌, IsTrue, nat_le, nat_lt, if◌then◌else◌}
+use Rattle.std.specs.Prelude.{ℕ, ◌≤◌, ◌==◌, ◌&&◌, ◌||◌, Bool, not, IsTrue, nat_le, nat_lt, if◌then◌else◌, bit_and}
+use Rattle.std.specs.Int.{bit_at}
 use Rattle.thread_base.specs.declared.Policy.{Policy}
 use Rattle.thread_base.specs.declared.Policy.TheVariants.{Other, Fifo, Rr}
 use Rattle.thread_base.specs.declared.Errno.{Errno}
@@ -14,8 +15,27 @@ abbrev pub IsPrio : ℕ → Type 0
 IsPrio n = n ≤ 31
 
 -- a signal's number is in scope: job control is left out (POSIX.1 signals, the numbers of Linux)
+abbrev pub is_in_scope : ℕ → Bool
+is_in_scope n = nat_le 1 n && (nat_le n 31 && (nat_lt n 18 || nat_lt 22 n))
+
 abbrev pub IsInScope : ℕ → Type 0
-IsInScope n = IsTrue (nat_le 1 n && (nat_le n 31 && (nat_lt n 18 || nat_lt 22 n)))
+IsInScope n = IsTrue (is_in_scope n)
+
+-- a signal can be blocked: every one in scope but KILL (POSIX.1 signal masks)
+abbrev pub can_block : ℕ → Bool
+can_block n = is_in_scope n && not (n == 9)
+
+-- a set of signals is a word in which bit s stands for signal s (this project's own)
+abbrev pub has_signal : ℕ → ℕ → Bool
+has_signal set n = bit_at set n == 1
+
+-- the set of all signals that can be blocked
+abbrev pub all_blocked : ℕ
+all_blocked = 0xFF83FDFE
+
+-- a word's signals that can be blocked
+abbrev pub set_of : ℕ → ℕ
+set_of word = bit_and word all_blocked
 
 -- a number that the call table has (this project's own numbers)
 abbrev pub IsCall : ℕ → Type 0

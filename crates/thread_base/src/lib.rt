@@ -1,8 +1,9 @@
 //! Numbers and names that every layer shares.
 #![tactic(auto)]
 
-ghost use Rattle.std.specs.Prelude.{◌≡◌, ◌<◌, ◌≤◌, ◌+◌, SomeIff};
-ghost use Rattle.thread_base.specs.Numbers.{IsTid, IsPrio, IsInScope, IsCall, IsPolicy, policy_of, code_of};
+ghost use Rattle.std.specs.Prelude.{◌≡◌, ◌<◌, ◌≤◌, ◌+◌, ◌&&◌, ℕ, SomeIff};
+ghost use Rattle.thread_base.specs.Numbers.{IsTid, IsPrio, IsInScope, IsCall, IsPolicy, can_block, has_signal, set_of, policy_of, code_of};
+ghost use Rattle.thread_base.specs.Priority.{EffectiveIsGreatest};
 
 use std::marker::Model;
 
@@ -144,6 +145,40 @@ impl Sig {
     }
 }
 
+/// The bits of the signals that can be blocked: those in scope but KILL.
+const ALL_BLOCKED: u32 = 0xff83_fdfe;
+
+/// A set of signals that can be blocked, by POSIX.1: those in scope but KILL. Bit s stands for signal s.
+#[derive(Clone, Copy, Debug, PartialEq, Eq)]
+pub struct SigSet(u32);
+
+impl Model for SigSet {
+    ghost use Rattle.std.specs.Prelude.{ℕ};
+
+    ghost Value = { ℕ };
+
+    ghost view = { λ s. s.0 };
+
+    ghost inverse = { λ n. record { 0 = n } };
+}
+
+impl SigSet {
+    /// The signals of a word, of which bit s stands for signal s; what cannot be blocked is left out.
+    pub fn of(word: u32) -> SigSet
+        ensures set { result ≡ set_of word }
+        ensures members { (sig : ℕ) → has_signal result sig ≡ (has_signal word sig && can_block sig) }
+    {
+        SigSet(word & ALL_BLOCKED)
+    }
+
+    /// Whether a signal is in the set.
+    pub fn has(self, s: Sig) -> bool
+        ensures { result ≡ has_signal self s }
+    {
+        (self.0 >> s.number()) & 1 == 1
+    }
+}
+
 /// A scheduling policy of POSIX.1: SCHED_OTHER, SCHED_FIFO or SCHED_RR.
 #[derive(Clone, Copy, Debug, PartialEq, Eq)]
 pub enum Policy {
@@ -249,6 +284,12 @@ pub struct Place {
     pub k: u32,
 }
 
+/// The law of effective priority, by POSIX.1 priority inheritance: it is the greatest own priority over the
+/// thread itself and every thread from which a chain of edges leads to it, circles of edges too, and no other.
+pub fn effective_is_greatest()
+    ensures { EffectiveIsGreatest }
+{}
+
 #[cfg(test)]
 mod tests {
     use super::*;
@@ -287,6 +328,12 @@ mod tests {
         assert_eq!(rt; Policy::new(2), Some(Policy::Rr));
         assert_eq!(rt; Policy::new(3), None);
         assert_eq!(rt; Errno::ETIMEDOUT.code(), 110);
+        for (n, member) in [(1, true), (2, false), (9, false), (18, false), (31, true)] {
+            let set = SigSet::of(0xfffc_0202 | (1 << 31));
+            if let Some(sig) = Sig::new(n) {
+                assert_eq!(rt; set.has(sig), member, "signal {n} in the set");
+            }
+        }
         assert!(rt; Place { n: 3, k: 9 } < Place { n: 4, k: 0 });
         assert!(rt; Place { n: 4, k: 0 } < Place { n: 4, k: 1 });
     }
