@@ -1,15 +1,19 @@
 -- The calls: of each its refusals in order, then its effect, then its reply.
-use Rattle.std.specs.Prelude.{ℕ, ◌%◌, ◌==◌, ◌||◌, Bool, not, if◌then◌else◌, List, [], ◌∷◌, Some, length, min, slice_index}
+use Rattle.std.specs.Prelude.{ℕ, ◌%◌, ◌==◌, ◌||◌, Bool, true, not, if◌then◌else◌, List, [], ◌∷◌, Option, Some, None, length, min, slice_index}
 use Rattle.thread_base.specs.Numbers.{code_of}
 use Rattle.thread_base.specs.declared.Errno.{Errno}
-use Rattle.thread_base.specs.declared.Errno.TheVariants.{EBADF, EFAULT, ENOSYS}
+use Rattle.thread_base.specs.declared.Errno.TheVariants.{ESRCH, EBADF, EAGAIN, EFAULT, EINVAL, EDEADLK, ENOSYS}
 use Rattle.rv_exec.specs.Window.{fits}
-use Rattle.posix_model.specs.State.{State, Registers}
-use Rattle.posix_model.specs.Changes.{Made, begun, reply}
+use Rattle.posix_model.specs.State.{State, Registers, Standing, Absent, Ready, Waits, Ended, no_thread}
+use Rattle.posix_model.specs.Changes.{Made, begun, reply, set_thread, append, to_end, await}
+use Rattle.posix_model.specs.Threads.{exists, free_number, has_joiner, are_attributes, new_thread}
+use Rattle.posix_model.specs.Leaving.{start_exit}
 use Rattle.posix_model.specs.declared.Arguments.{Arguments}
 use Rattle.posix_model.specs.declared.Report.{Report}
 use Rattle.posix_model.specs.declared.Reply.{Reply}
-use Rattle.posix_model.specs.declared.Reply.TheVariants.{Values, End}
+use Rattle.posix_model.specs.declared.Reply.TheVariants.{Values, Block, Exit as Exits, End}
+use Rattle.posix_model.specs.declared.Wait.{Wait}
+use Rattle.posix_model.specs.declared.Wait.TheVariants.{Join}
 use Rattle.posix_model.specs.declared.Head.TheVariants.{Call}
 use Rattle.posix_model.specs.declared.Ending.TheVariants.{Exit}
 
@@ -62,12 +66,86 @@ write s t c =
 abbrev pub exit : State → ℕ → Arguments → Called
 exit s t c = record { made = begun (record s { over = Some (Exit (c.a % 256)) }); reply = End }
 
--- the row of a call's number; a number that is not in the table, or not built, answers ENOSYS
-unfoldable pub call_row : State → ℕ → ℕ → Arguments → Called
-call_row s t number c =
+-- the caller waits
+abbrev pub blocked : State → ℕ → Wait → Called
+blocked s t wait = record { made = begun (await s t wait); reply = Block }
+
+-- a routine, a stack or attributes with which no thread can be made
+abbrev pub cannot_start : Arguments → Bool
+cannot_start c = not (c.a % 4 == 0) || (not (c.d % 16 == 0) || not (are_attributes c.e))
+
+-- a new thread of a number, which is ready; with no number left there is none
+abbrev pub created : State → ℕ → Arguments → Option ℕ → Called
+created s t c None = refused s t EAGAIN
+created s t c (Some u) = values (begun (append s u (new_thread (s.threads t) c))) t 0 u
+
+-- 256: create(routine, argument, stack, attributes) (POSIX.1 pthread_create)
+abbrev pub create : State → ℕ → Arguments → Called
+create s t c = refusing s t ((cannot_start c, EINVAL) ∷ []) (created s t c (free_number s))
+
+-- 257: exit of the calling thread with a value (POSIX.1 pthread_exit)
+abbrev pub exit_thread : State → ℕ → Arguments → Called
+exit_thread s t c = record { made = begun (start_exit s t c.a); reply = Exits }
+
+-- whether nobody may join or detach a thread any more
+abbrev pub is_taken : State → ℕ → Bool
+is_taken s u = (s.threads u).detached || has_joiner s u
+
+-- a join of a thread that has ended takes its value and frees its number; another waits
+abbrev pub join_by : State → ℕ → ℕ → Standing → Called
+join_by s t u Absent = blocked s t (Join u)
+join_by s t u Ready = blocked s t (Join u)
+join_by s t u (Waits wait) = blocked s t (Join u)
+join_by s t u (Ended value) = values (begun (set_thread s u no_thread)) t 0 value
+
+-- 258: join(thread) (POSIX.1 pthread_join)
+abbrev pub join : State → ℕ → Arguments → Called
+join s t c =
+    refusing s t (
+    (c.a == t, EDEADLK)
+    ∷ (not (exists s c.a), ESRCH)
+    ∷ (is_taken s c.a, EINVAL) ∷ [])
+    (join_by s t c.a (s.threads c.a).standing)
+
+-- a thread is detached; the number of one that has ended is free
+abbrev pub detached_by : State → ℕ → Standing → State
+detached_by s u Absent = set_thread s u (record (s.threads u) { detached = true })
+detached_by s u Ready = set_thread s u (record (s.threads u) { detached = true })
+detached_by s u (Waits wait) = set_thread s u (record (s.threads u) { detached = true })
+detached_by s u (Ended value) = set_thread s u no_thread
+
+-- 259: detach(thread) (POSIX.1 pthread_detach)
+abbrev pub detach : State → ℕ → Arguments → Called
+detach s t c =
+    refusing s t (
+    (not (exists s c.a), ESRCH)
+    ∷ (is_taken s c.a, EINVAL) ∷ [])
+    (values (begun (detached_by s c.a (s.threads c.a).standing)) t 0 0)
+
+-- 260: self() (POSIX.1 pthread_self)
+abbrev pub self_number : State → ℕ → Called
+self_number s t = values (begun s) t 0 t
+
+-- 261: yield() (POSIX.1 sched_yield)
+abbrev pub yield : State → ℕ → Called
+yield s t = values (begun (to_end s t)) t 0 0
+
+-- the row of a number; one that the table does not have answers ENOSYS
+unfoldable pub table_row : State → ℕ → ℕ → Arguments → Called
+table_row s t number c =
     if number == 64 then write s t c
     else if number == 93 then exit s t c
+    else if number == 256 then create s t c
+    else if number == 257 then exit_thread s t c
+    else if number == 258 then join s t c
+    else if number == 259 then detach s t c
+    else if number == 260 then self_number s t
+    else if number == 261 then yield s t
     else refused s t ENOSYS
+
+-- the row of a call's number; a call that is not built answers ENOSYS
+unfoldable pub call_row : (ℕ → Bool) → State → ℕ → ℕ → Arguments → Called
+call_row is_built s t number c = if is_built number then table_row s t number c else refused s t ENOSYS
 
 -- a call that was made, with what is told of it
 abbrev pub told_call : ℕ → ℕ → Arguments → Called → Made
@@ -75,5 +153,5 @@ told_call t number c called =
     record called.made { report = record called.made.report { tid = t; head = Call number (c.a ∷ c.b ∷ c.d ∷ c.e ∷ []) called.reply } }
 
 -- a call as one change
-abbrev pub call : State → ℕ → ℕ → Arguments → Made
-call s t number c = told_call t number c (call_row s t number c)
+abbrev pub call : (ℕ → Bool) → State → ℕ → ℕ → Arguments → Made
+call is_built s t number c = told_call t number c (call_row is_built s t number c)

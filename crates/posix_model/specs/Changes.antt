@@ -1,7 +1,9 @@
 -- The small changes of which moves are made.
-use Rattle.std.specs.Prelude.{ℕ, ◌+◌, ◌-◌, ◌^◌, ◌%◌, ◌==◌, if◌then◌else◌, nat_lt, slice_index, slice_set}
+use Rattle.std.specs.Prelude.{ℕ, ◌+◌, ◌-◌, ◌^◌, ◌%◌, ◌==◌, if◌then◌else◌, [], ◌∷◌, ◌++◌, nat_lt, slice_index, slice_set, bit_or}
 use Rattle.thread_base.specs.Maps.{put}
-use Rattle.posix_model.specs.State.{State, Thread, Registers}
+use Rattle.thread_base.specs.Orders.{without}
+use Rattle.posix_model.specs.State.{State, Thread, Registers, Ready, Waits}
+use Rattle.posix_model.specs.declared.Wait.{Wait}
 use Rattle.posix_model.specs.Reports.{nothing_told}
 use Rattle.posix_model.specs.declared.Report.{Report}
 
@@ -33,6 +35,45 @@ answered r error value = record {
       else slice_set (slice_set r.x 10 error) 11 value;
 }
 
+-- a thread after an answer
+abbrev pub with_reply : Thread → ℕ → ℕ → Thread
+with_reply thread error value = record thread { registers = answered thread.registers error value }
+
 -- the caller of a call is answered, and goes on
 abbrev pub reply : State → ℕ → ℕ → ℕ → State
-reply s t error value = set_registers s t (answered (s.threads t).registers error value)
+reply s t error value = set_thread s t (with_reply (s.threads t) error value)
+
+-- a thread becomes ready: it goes to the end of the ready list, and its turn begins (POSIX.1 scheduling)
+abbrev pub append : State → ℕ → Thread → State
+append s t thread = record s {
+  threads = put s.threads t (record thread { standing = Ready; used = 0 });
+  ready = s.ready ++ t ∷ [];
+}
+
+-- a ready thread goes to the end of the ready list, and its turn begins (POSIX.1 sched_yield)
+abbrev pub to_end : State → ℕ → State
+to_end s t = record s {
+  threads = put s.threads t (record (s.threads t) { used = 0 });
+  ready = without t s.ready ++ t ∷ [];
+}
+
+-- a ready thread waits from now on, its pc at its call
+abbrev pub await : State → ℕ → Wait → State
+await s t wait = record s {
+  threads = put s.threads t (record (s.threads t) { standing = Waits wait });
+  ready = without t s.ready;
+}
+
+-- it is told that a waiting thread was answered
+abbrev pub with_answer : Report → ℕ → ℕ → ℕ → Report
+with_answer report t error value = record report {
+  done = bit_or report.done (2 ^ (t - 1));
+  values = slice_set report.values (t - 1) (error, value);
+}
+
+-- a waiting thread is answered: it goes on behind its call, and becomes ready
+abbrev pub answer : Made → ℕ → ℕ → ℕ → Made
+answer g t error value = record {
+  state = append g.state t (with_reply (g.state.threads t) error value);
+  report = with_answer g.report t error value;
+}

@@ -3,12 +3,9 @@ use Rattle.std.specs.Prelude.{ℕ, ◌+◌, false, List, [], ◌∷◌, length, 
 use Rattle.thread_base.specs.Maps.{put}
 use Rattle.thread_base.specs.declared.Policy.TheVariants.{Other}
 use Rattle.rv_exec.specs.Window.{base}
-use Rattle.posix_model.specs.State.{State, Thread, Registers, Ready, no_thread, none_pending}
+use Rattle.posix_model.specs.State.{State, Thread, Registers, Normal, Ready, no_thread, none_pending}
+use Rattle.posix_model.specs.Threads.{start_return}
 use Rattle.posix_model.specs.Runs.{Moment}
-
--- the return address of a thread's first routine: a special address (this project's own)
-abbrev pub start_return : ℕ
-start_return = 0xFFFFFFD0
 
 -- the registers of thread 1: it stands at the entry, with its stack at the window's end (this project's own)
 abbrev pub start_registers : ℕ → ℕ → Registers
@@ -22,6 +19,7 @@ main_thread size entry = record {
   policy = Other;
   used = 0;
   detached = false;
+  phase = Normal;
   standing = Ready;
 }
 

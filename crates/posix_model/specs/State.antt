@@ -1,18 +1,27 @@
 -- What the machine consists of.
-use Rattle.std.specs.Prelude.{ℕ, Bool, false, List, replicate, Option}
+use Rattle.std.specs.Prelude.{ℕ, ◌==◌, Bool, true, false, List, replicate, Option}
 use Rattle.thread_base.specs.declared.Policy.{Policy}
 use Rattle.thread_base.specs.declared.Policy.TheVariants.{Other}
 use Rattle.posix_model.specs.declared.Ending.{Ending}
+use Rattle.posix_model.specs.declared.Wait.{Wait}
+use Rattle.posix_model.specs.declared.Wait.TheVariants.{Join}
 
 -- the program counter, and x0 to x31 (RISC-V)
 pub record Registers : Type 0 where
   pub pc : ℕ
   pub x : List ℕ
 
--- what a thread is doing; at a number that no thread has, none is there
+-- whether a thread is in its exit, and with which value (POSIX.1 pthread_exit)
+pub data Phase : Type 0 where
+  Normal : Phase
+  Leaving : (value : ℕ) → Phase
+
+-- what a thread is doing; at a number that no thread has, none is there (POSIX.1 thread states)
 pub data Standing : Type 0 where
   Absent : Standing
   Ready : Standing
+  Waits : (wait : Wait) → Standing
+  Ended : (value : ℕ) → Standing  -- its value is still to be collected
 
 -- a thread (POSIX.1 threads)
 pub record Thread : Type 0 where
@@ -21,6 +30,7 @@ pub record Thread : Type 0 where
   pub policy : Policy
   pub used : ℕ  -- the ticks used of its turn
   pub detached : Bool
+  pub phase : Phase
   pub standing : Standing
 
 -- the machine
@@ -39,9 +49,42 @@ no_thread = record {
   policy = Other;
   used = 0;
   detached = false;
+  phase = Normal;
   standing = Absent;
 }
 
 -- no signal pends anywhere
 abbrev pub none_pending : ℕ → ℕ → ℕ
 none_pending t sig = 0
+
+-- there is no thread
+abbrev pub is_absent : Standing → Bool
+is_absent Absent = true
+is_absent Ready = false
+is_absent (Waits wait) = false
+is_absent (Ended value) = false
+
+-- a thread can run
+abbrev pub is_ready : Standing → Bool
+is_ready Absent = false
+is_ready Ready = true
+is_ready (Waits wait) = false
+is_ready (Ended value) = false
+
+-- a thread is there and has not ended
+abbrev pub is_live : Standing → Bool
+is_live Absent = false
+is_live Ready = true
+is_live (Waits wait) = true
+is_live (Ended value) = false
+
+-- a wait is for the end of a thread
+abbrev pub awaits_end : ℕ → Wait → Bool
+awaits_end t (Join u) = u == t
+
+-- a thread waits for the end of a thread (POSIX.1 pthread_join)
+abbrev pub joins : ℕ → Standing → Bool
+joins t Absent = false
+joins t Ready = false
+joins t (Waits wait) = awaits_end t wait
+joins t (Ended value) = false

@@ -3,10 +3,17 @@
 
 ghost use Rattle.std.specs.Prelude.{◌≡◌};
 ghost use Rattle.posix_model.specs.Reports.{nothing_told};
-ghost use Rattle.posix_model.specs.Laws.{OneRun, Progress, Completion};
+ghost use Rattle.posix_model.specs.Laws.{OneRun, Progress, Completion, Goodness, PriorityIsInherited};
+ghost use Rattle.posix_model.specs.State.{awaits_end};
+ghost use Rattle.thread_base.specs.Numbers.{code_of};
 
 use rv_exec::Special;
-use thread_base::{Place, Sig, Tid};
+use thread_base::{Errno, Place, Sig, Tid};
+
+mod attributes;
+pub mod examples;
+
+pub use attributes::Attributes;
 
 /// One move of a run: an instruction of a thread, an arrival of `count` journal entries from
 /// entry `first` on, the first of which was presented at `at`, or the next delivery.
@@ -37,6 +44,32 @@ pub enum Reply {
     Cancel,
     Enter,
     End,
+}
+
+impl Reply {
+    /// The answer of a refusal: its error, with the value 0.
+    pub fn refusal(error: Errno) -> Reply
+        ensures { result ≡ Reply.Values (code_of error) 0 }
+    {
+        Reply::Values(error.code(), 0)
+    }
+}
+
+/// What a thread waits for: the end of a thread.
+#[derive(Clone, Copy, Debug, PartialEq, Eq)]
+pub enum Wait {
+    Join(Tid),
+}
+
+impl Wait {
+    /// Whether it is for the end of a thread.
+    pub fn is_for_end_of(self, t: Tid) -> bool
+        ensures { result ≡ awaits_end t self }
+    {
+        match self {
+            Wait::Join(u) => u.number() == t.number(),
+        }
+    }
 }
 
 /// The arguments of a call, which stand in a0, a1, a2 and a3.
@@ -166,7 +199,49 @@ pub fn progress()
     ensures { Progress }
 {}
 
+/// The law of good states: the start is good, and every move that is allowed keeps a good state good.
+pub fn goodness()
+    ensures { Goodness }
+{}
+
+/// The law of inherited priority: a thread's effective priority is the greatest own priority over the thread
+/// itself and every thread from which a chain of waits leads to it, by POSIX.1.
+pub fn priority_is_inherited()
+    ensures { PriorityIsInherited }
+{}
+
 /// Within the budget every run so far goes on to a whole run.
 pub fn completion()
     ensures { Completion }
 {}
+
+#[cfg(test)]
+mod tests {
+    use super::*;
+    use thread_base::{Policy, Prio};
+
+    #[test]
+    fn attributes_by_bits(rt: HostRuntime) {
+        let inherited = Attributes { word: 0x1_0000 };
+        let told = Attributes { word: 0x2_010c };
+        assert!(rt; inherited.are_valid() && inherited.detached());
+        assert!(rt; told.are_valid() && !told.detached());
+        assert!(rt; !Attributes { word: 0x20 }.are_valid());
+        assert!(rt; !Attributes { word: 0x2_0300 }.are_valid());
+        let Some(base) = Prio::new(8) else {
+            return;
+        };
+        assert_eq!(rt; inherited.base(base).number(), 8);
+        assert_eq!(rt; told.base(base).number(), 12);
+        assert_eq!(rt; inherited.policy(Policy::Rr), Policy::Rr);
+        assert_eq!(rt; told.policy(Policy::Rr), Policy::Fifo);
+    }
+
+    #[test]
+    fn replies_and_waits(rt: HostRuntime) {
+        assert_eq!(rt; Reply::refusal(Errno::EDEADLK), Reply::Values(35, 0));
+        assert!(rt; Wait::Join(Tid::at(1)).is_for_end_of(Tid::at(1)));
+        assert!(rt; !Wait::Join(Tid::at(1)).is_for_end_of(Tid::at(2)));
+        assert_eq!(rt; Report::nothing().done, 0);
+    }
+}

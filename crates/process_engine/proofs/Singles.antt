@@ -7,7 +7,7 @@ use Rattle.thread_base.specs.Numbers.{IsInScope}
 use Rattle.thread_base.specs.declared.Policy.TheVariants.{Other}
 use Rattle.thread_base.proofs.MapLemmas.{put-put, put_got, put_same, put_other}
 use Rattle.thread_base.proofs.PriorityLemmas.{first_of_one}
-use Rattle.posix_model.specs.State.{Registers, Thread, Ready, no_thread, none_pending}
+use Rattle.posix_model.specs.State.{Registers, Thread, Normal, Ready, no_thread, none_pending}
 use Rattle.posix_model.specs.Changes.{set_registers, answered, reply}
 use Rattle.posix_model.specs.Scheduling.{chosen, eff}
 use Rattle.posix_model.specs.Deliveries.{next_delivery, faulted, delivered, deliver}
@@ -21,7 +21,7 @@ use Rattle.process_engine.specs.Single.{Single, state_of, registers_of, made_of,
 
 -- the record of thread 1
 abbrev thread_with : Registers → Thread
-thread_with r = record { registers = r; base = 8; policy = Other; used = 0; detached = false; standing = Ready }
+thread_with r = record { registers = r; base = 8; policy = Other; used = 0; detached = false; phase = Normal; standing = Ready }
 
 pub registers_are : (p : Single) → ((state_of p).threads 1).registers ≡ registers_of p
 unfolding state_of

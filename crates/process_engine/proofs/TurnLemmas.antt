@@ -21,6 +21,7 @@ use Rattle.posix_model.specs.declared.Ending.TheVariants.{Budget}
 use Rattle.thread_base.specs.Numbers.{IsInScope}
 use Rattle.thread_base.specs.Priority.{tids}
 use Rattle.process_engine.specs.Single.{Single, state_of, moment_of, registers_of, made_of}
+use Rattle.process_engine.specs.Program.{built, program}
 use Rattle.process_engine.specs.Turns.{IsTurn}
 use Rattle.process_engine.specs.Advancing.{CanGo, CanTell, IsInCall, IsCounted, FaultsBy, Advanced, Advances}
 use Rattle.process_engine.specs.declared.moves.Cause.{Cause}
@@ -70,9 +71,9 @@ unfolding lines head_line alarm_line out_line took_line count_lines sig_numbers 
 no_lines t memory = refl
 
 -- the instruction of thread 1, by its effect
-by : (p : Single) → instruction (state_of p) 1 ≡ by_effect (state_of p) 1 (effect p.pc p.x p.memory)
+by : (p : Single) → instruction built (state_of p) 1 ≡ by_effect built (state_of p) 1 (effect p.pc p.x p.memory)
 unfolding instruction state_of
-by p = ap (λ (r : Registers). by_effect (state_of p) 1 (effect r.pc r.x p.memory)) (registers_are p)
+by p = ap (λ (r : Registers). by_effect built (state_of p) 1 (effect r.pc r.x p.memory)) (registers_are p)
 
 -- thread 1 has its turn
 pub has_turn : (p : Single) → p.over ≡ None → p.fault ≡ None → IsTurnOf (state_of p) 1
@@ -88,8 +89,8 @@ still_registers : (p q : Single) → IsStill p.pc p.x p.memory q.pc q.x q.memory
 still_registers p q still = λ i. record { pc = still.same_pc i; x = still.same_x i }
 
 went : (p q : Single) → IsCounted p q → HasEffect (effect p.pc p.x p.memory) Next p.pc p.x p.memory q.pc q.x q.memory
-    → instruction (state_of p) 1 ≡ went_on (state_of p) 1 (registers_of q) q.memory
-went p q counted h = by p ∙ ap (by_effect (state_of p) 1) (goes_on (effect p.pc p.x p.memory) p.pc p.x p.memory q.pc q.x q.memory h)
+    → instruction built (state_of p) 1 ≡ went_on (state_of p) 1 (registers_of q) q.memory
+went p q counted h = by p ∙ ap (by_effect built (state_of p) 1) (goes_on (effect p.pc p.x p.memory) p.pc p.x p.memory q.pc q.x q.memory h)
 
 went_state : (p q : Single) → IsCounted p q → state_of q ≡ (went_on (state_of p) 1 (registers_of q) q.memory).state
 unfolding state_of
@@ -111,7 +112,7 @@ quiet_turn p q over fault budget counted h =
 
 -- an instruction with lines
 pub made_turn : (p r : Single) (report : Report) → p.over ≡ None → p.fault ≡ None → p.made < p.settings.budget
-    → made_of r report ≡ instruction (state_of p) 1 → r.made ≡ p.made + 1 → r.last ≡ Some 1
+    → made_of r report ≡ instruction built (state_of p) 1 → r.made ≡ p.made + 1 → r.last ≡ Some 1
     → IsReadable report r.memory → (report.head ≡ QuietHead → ⊥) → IsTurn p.settings (moment_of p) (MadeTurn report) (moment_of r)
 unfolding state_of
 made_turn p r report over fault budget now made last readable told = (
@@ -125,35 +126,35 @@ made_turn p r report over fault budget now made last readable told = (
 
 -- a call
 pub call_made : (p q : Single) (now : Made) → IsCounted p q → HasEffect (effect p.pc p.x p.memory) Ecall p.pc p.x p.memory q.pc q.x q.memory
-    → now ≡ call (state_of q) 1 (call_number (registers_of q)) (arguments (registers_of q)) → now ≡ instruction (state_of p) 1
+    → now ≡ call built.calls (state_of q) 1 (call_number (registers_of q)) (arguments (registers_of q)) → now ≡ instruction built (state_of p) 1
 call_made p q now counted h e =
     let it = calls (effect p.pc p.x p.memory) p.pc p.x p.memory q.pc q.x q.memory h in
     let registers = still_registers p q it.1 in
-    let called : State → Registers → Made = λ s r. call s 1 (call_number r) (arguments r) in
+    let called : State → Registers → Made = λ s r. call built.calls s 1 (call_number r) (arguments r) in
     e
     ∙ ap (λ (s : State). called s (registers_of q)) (still_state p q counted it.1)
     ∙ ap (λ (r : Registers). called (state_of p) r) (registers ∙ sym (registers_are p))
-    ∙ sym (by p ∙ ap (by_effect (state_of p) 1) it.0)
+    ∙ sym (by p ∙ ap (by_effect built (state_of p) 1) it.0)
 
 -- a fault
 pub fault_told : (p q : Single) (sig : ℕ) (now : Made) → IsCounted p q → HasEffect (effect p.pc p.x p.memory) (FaultEvent sig) p.pc p.x p.memory q.pc q.x q.memory
-    → now ≡ faulted (state_of q) 1 sig → now ≡ instruction (state_of p) 1
+    → now ≡ faulted (state_of q) 1 sig → now ≡ instruction built (state_of p) 1
 fault_told p q sig now counted h e =
     let it = faults (effect p.pc p.x p.memory) sig p.pc p.x p.memory q.pc q.x q.memory h in
-    e ∙ ap (λ (s : State). faulted s 1 sig) (still_state p q counted it.1) ∙ sym (by p ∙ ap (by_effect (state_of p) 1) it.0)
+    e ∙ ap (λ (s : State). faulted s 1 sig) (still_state p q counted it.1) ∙ sym (by p ∙ ap (by_effect built (state_of p) 1) it.0)
 
 -- a special return, which is not due
 pub return_told : (p q : Single) (which : Special) (sig : ℕ) (now : Made) → IsCounted p q → HasEffect (effect p.pc p.x p.memory) (ReturnEvent which) p.pc p.x p.memory q.pc q.x q.memory
-    → sig ≡ segmentation_fault → now ≡ faulted (state_of q) 1 sig → now ≡ instruction (state_of p) 1
+    → sig ≡ segmentation_fault → now ≡ faulted (state_of q) 1 sig → now ≡ instruction built (state_of p) 1
 return_told p q which sig now counted h same e =
     let it = returns (effect p.pc p.x p.memory) which p.pc p.x p.memory q.pc q.x q.memory h in
     e
     ∙ ap (λ (n : ℕ). faulted (state_of q) 1 n) same
     ∙ ap (λ (s : State). faulted s 1 segmentation_fault) (still_state p q counted it.1)
-    ∙ sym (by p ∙ ap (by_effect (state_of p) 1) it.0)
+    ∙ sym (by p ∙ ap (by_effect built (state_of p) 1) it.0)
 
 -- a fault of either kind
-pub fault_made_by : (p q : Single) (sig : ℕ) (now : Made) → IsCounted p q → FaultsBy p sig q → now ≡ faulted (state_of q) 1 sig → now ≡ instruction (state_of p) 1
+pub fault_made_by : (p q : Single) (sig : ℕ) (now : Made) → IsCounted p q → FaultsBy p sig q → now ≡ faulted (state_of q) 1 sig → now ≡ instruction built (state_of p) 1
 fault_made_by p q sig now counted (inl h) e = fault_told p q sig now counted h e
 fault_made_by p q sig now counted (inr h) e = return_told p q h.0 sig now counted h.1 h.2 e
 
@@ -172,12 +173,12 @@ delivery_turn p r sig report over fault scope now made last readable told = (
 )
 
 -- the run is over
-pub over_ends : (p : Single) (ending : Ending) → p.over ≡ Some ending → Ends p.settings (moment_of p) ending
+pub over_ends : (p : Single) (ending : Ending) → p.over ≡ Some ending → Ends (program p.settings) (moment_of p) ending
 unfolding state_of
 over_ends p ending e = inl e
 
 -- the budget is used up
-pub budget_ends : (p : Single) → p.over ≡ None → p.fault ≡ None → p.made ≡ p.settings.budget → Ends p.settings (moment_of p) Budget
+pub budget_ends : (p : Single) → p.over ≡ None → p.fault ≡ None → p.made ≡ p.settings.budget → Ends (program p.settings) (moment_of p) Budget
 budget_ends p over fault made = inr (inr (refl, record { used_up = made; tid = 1; turn = has_turn p over fault }))
 
 -- what was counted keeps the rest

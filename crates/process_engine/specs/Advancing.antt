@@ -7,6 +7,7 @@ use Rattle.rv_exec.specs.declared.Event.TheVariants.{Ecall, Fault as FaultEvent,
 use Rattle.rv_exec.specs.declared.Special.{Special}
 use Rattle.posix_model.specs.Instructions.{segmentation_fault}
 use Rattle.posix_model.specs.Runs.{Ends}
+use Rattle.process_engine.specs.Program.{program}
 use Rattle.process_engine.specs.Single.{Single, moment_of}
 use Rattle.process_engine.specs.Turns.{IsTurn}
 use Rattle.process_engine.specs.declared.Turn.TheVariants.{Quiet}
@@ -43,7 +44,7 @@ Advanced p (Delivery sig) q = (p.over ≡ None) × (p.fault ≡ Some sig) × (q 
 abbrev pub Advances : Single → Came → Single → Type 0
 Advances p Plain q = IsTurn p.settings (moment_of p) Quiet (moment_of q) × (q.settings ≡ p.settings) × (q.last ≡ Some 1)
 Advances p (Told cause) q = Advanced p cause q
-Advances p (End ending) q = Ends p.settings (moment_of p) ending × (p.fault ≡ None) × (q ≡ p)
+Advances p (End ending) q = Ends (program p.settings) (moment_of p) ending × (p.fault ≡ None) × (q ≡ p)
 
 -- an instruction was made, and nothing waits for its delivery
 pub record IsInCall (q : Single) : Type 0 where

@@ -1,3 +1,4 @@
+pub mod Program
 pub mod Single
 pub mod Turns
 pub mod Advancing

@@ -2,7 +2,7 @@
 use Rattle.std.specs.Prelude.{ℕ, ◌≡◌, false, List, [], ◌∷◌, Option, Some, None}
 use Rattle.thread_base.specs.Maps.{put}
 use Rattle.thread_base.specs.declared.Policy.TheVariants.{Other}
-use Rattle.posix_model.specs.State.{State, Registers, Ready, no_thread, none_pending}
+use Rattle.posix_model.specs.State.{State, Registers, Normal, Ready, no_thread, none_pending}
 use Rattle.posix_model.specs.Changes.{Made}
 use Rattle.posix_model.specs.Calls.{Called}
 use Rattle.posix_model.specs.Runs.{Moment}
@@ -37,6 +37,7 @@ state_of p = record {
     policy = Other;
     used = 0;
     detached = false;
+    phase = Normal;
     standing = Ready;
   });
   ready = 1 ∷ [];

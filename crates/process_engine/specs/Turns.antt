@@ -9,6 +9,7 @@ use Rattle.posix_model.specs.declared.Settings.{Settings}
 use Rattle.posix_model.specs.declared.Ending.{Ending}
 use Rattle.posix_model.specs.declared.Move.{Move}
 use Rattle.posix_model.specs.declared.Head.TheVariants.{Quiet as QuietHead}
+use Rattle.process_engine.specs.Program.{built, program}
 use Rattle.process_engine.specs.declared.Turn.{Turn}
 use Rattle.process_engine.specs.declared.Turn.TheVariants.{Quiet, Made as MadeTurn, Ended}
 use Rattle.process_engine.specs.declared.Done.{Done}
@@ -17,29 +18,29 @@ use Rattle.process_engine.specs.declared.Done.{Done}
 -- Quiet where the move has no lines, Made with the report of a move that has some
 abbrev pub IsTurn : Settings → Moment → Turn → Moment → Type 0
 IsTurn settings old Quiet new =
-    (move : Move) × Allowed settings old move × (new ≡ moved old move) × (lines (make old.state move).report new.state.memory ≡ [])
+    (move : Move) × Allowed (program settings) old move × (new ≡ moved built old move) × (lines (make built old.state move).report new.state.memory ≡ [])
 IsTurn settings old (MadeTurn report) new =
-    (move : Move) × Allowed settings old move × (new ≡ moved old move) × (report ≡ (make old.state move).report)
+    (move : Move) × Allowed (program settings) old move × (new ≡ moved built old move) × (report ≡ (make built old.state move).report)
     × IsReadable report new.state.memory × (report.head ≡ QuietHead → ⊥)
-IsTurn settings old (Ended ending) new = Ends settings old ending × (new ≡ old)
+IsTurn settings old (Ended ending) new = Ends (program settings) old ending × (new ≡ old)
 
 -- the whole text of one ended run was written
 pub record RunsWhole (settings : Settings) (start : Moment) (done : Done) (before after : Option (List ℕ)) (faults_before faults_after : ℕ) : Type 0 where
   pub trace : List ℕ
-  pub whole : IsWholeText settings start done.ending trace
+  pub whole : IsWholeText (program settings) start done.ending trace
   pub written : WritesWhole before after faults_before faults_after trace
 
 -- a front of the text of a run so far was written, and then the sink failed
 pub record RunsPart (settings : Settings) (start : Moment) (before after : Option (List ℕ)) (faults_before faults_after : ℕ) : Type 0 where
   pub trace : List ℕ
-  pub part : IsText settings start trace
+  pub part : IsText (program settings) start trace
   pub written : WritesFront before after faults_before faults_after trace
 
 -- a front of the whole text of one ended run was written, and then the sink failed
 pub record RunsFront (settings : Settings) (start : Moment) (before after : Option (List ℕ)) (faults_before faults_after : ℕ) : Type 0 where
   pub ending : Ending
   pub trace : List ℕ
-  pub whole : IsWholeText settings start ending trace
+  pub whole : IsWholeText (program settings) start ending trace
   pub written : WritesFront before after faults_before faults_after trace
 
 -- a run from a start as far as it went: whole at Ok, with its ending, and a front of one so far where the sink failed

@@ -1,7 +1,7 @@
 ghost use Rattle.std.specs.Prelude.{◌≡◌, ◌<◌, ◌≤◌, ◌+◌, ◌++◌, ℕ, IfOk, Some, None, IsTrue, replicate, length};
 ghost use Rattle.posix_model.specs.Runs as runs;
 ghost use Rattle.posix_model.specs.Start.{start};
-ghost use Rattle.posix_model.specs.Trace.{left, is_last, switch_text};
+ghost use Rattle.posix_model.specs.Trace.{left, is_last, switch_line};
 ghost use Rattle.posix_model.specs.Lines.{lines};
 ghost use Rattle.posix_model.specs.declared.Ending.{Ending};
 ghost use Rattle.replay_io.specs.Writing.{Writes};
@@ -13,6 +13,7 @@ ghost use Rattle.rv_exec.specs.Meaning.{effect};
 ghost use Rattle.thread_base.specs.Numbers.{IsInScope};
 ghost use Rattle.rv_exec.specs.Outcome.{HasEffect};
 ghost use Rattle.trace_text.specs.Output.{IsReadable};
+ghost use Rattle.process_engine.specs.Program.{built};
 ghost use Rattle.process_engine.specs.Single.{Single, KeepsRest, state_of, moment_of, registers_of, called_of, made_of};
 ghost use Rattle.process_engine.specs.Turns.{IsTurn, Goes, Runs};
 ghost use Rattle.process_engine.specs.Advancing.{CanGo, CanTell, IsInCall, Advanced, Advances};
@@ -50,6 +51,7 @@ pub struct Process {
 
 impl Model for Process {
     ghost use Rattle.std.specs.Prelude.{◌≤◌};
+    ghost use Rattle.process_engine.specs.Program.{built};
     ghost use Rattle.process_engine.specs.Single.{Single};
     ghost use Rattle.process_engine.specs.Standings.{last_of, fault_of, over_of};
 
@@ -125,7 +127,7 @@ impl Process {
     {
         self.answer(error.code(), 0);
         Answer {
-            reply: Reply::Values(error.code(), 0),
+            reply: Reply::refusal(error),
             report: Report::nothing(),
         }
     }
@@ -166,10 +168,10 @@ impl Process {
     }
 
     /// Makes the call of a number.
-    #[tactic(auto, unfolding(posix_model::specs::Calls::call_row))]
+    #[tactic(auto, unfolding(posix_model::specs::Calls::call_row, posix_model::specs::Calls::table_row))]
     fn row(&mut self, number: u32, args: Arguments) -> Answer
         requires { IsInCall self.old }
-        ensures called { called_of self.new result ≡ calls.call_row (state_of self.old) 1 number args }
+        ensures called { called_of self.new result ≡ calls.call_row built.calls (state_of self.old) 1 number args }
         ensures rest { KeepsRest self.old self.new }
         ensures readable { IsReadable result.report self.new.memory }
     {
@@ -183,7 +185,7 @@ impl Process {
     /// Makes the call at which thread 1 stands.
     fn call(&mut self) -> Report
         requires { IsInCall self.old }
-        ensures made { made_of self.new result ≡ calls.call (state_of self.old) 1 (calls.call_number (registers_of self.old)) (calls.arguments (registers_of self.old)) }
+        ensures made { made_of self.new result ≡ calls.call built.calls (state_of self.old) 1 (calls.call_number (registers_of self.old)) (calls.arguments (registers_of self.old)) }
         ensures rest { KeepsRest self.old self.new }
         ensures readable { IsReadable result self.new.memory }
         ensures told { result.head ≡ Head.Quiet → ⊥ }
@@ -331,7 +333,7 @@ impl Process {
     /// Writes the line before an instruction of another thread than the last.
     #[tactic(auto, using(replay_io::proofs::WritingLemmas::writes_nothing))]
     fn put_switch<O: Sink>(&self, before: Option<Tid>, out: &mut O) -> Result<(), SinkFailed>
-        ensures { Writes result (O.written out.old) (O.written out.new) (O.faults out.old) (O.faults out.new) (switch_text before self.now.last) }
+        ensures { Writes result (O.written out.old) (O.written out.new) (O.faults out.old) (O.faults out.new) (switch_line before self.now.last) }
     {
         let Some(t) = self.last() else {
             return Ok(());
@@ -352,7 +354,7 @@ impl Process {
         out: &mut O,
     ) -> Result<(), SinkFailed>
         requires { IsReadable report.now (state_of self.now).memory }
-        ensures { Writes result (O.written out.old) (O.written out.new) (O.faults out.old) (O.faults out.new) (switch_text before self.now.last ++ lines report.now (state_of self.now).memory) }
+        ensures { Writes result (O.written out.old) (O.written out.new) (O.faults out.old) (O.faults out.new) (switch_line before self.now.last ++ lines report.now (state_of self.now).memory) }
     {
         self.put_switch(before, out)?;
         put_report(report, &self.mem, mode, out)

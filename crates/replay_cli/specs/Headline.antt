@@ -6,6 +6,7 @@ use Rattle.replay_io.specs.Writing.{Appended, AppendedFront}
 use Rattle.posix_model.specs.Runs.{Moment}
 use Rattle.posix_model.specs.Start as machine
 use Rattle.posix_model.specs.Trace.{IsWholeText}
+use Rattle.process_engine.specs.Program.{program}
 use Rattle.posix_model.specs.declared.Settings.{Settings}
 use Rattle.posix_model.specs.declared.Ending.{Ending}
 
@@ -35,7 +36,7 @@ pub record WritesRunOf (image : List ℕ) (before after : Option (List ℕ)) : T
   pub of_image : IsStartOf image start
   pub ending : Ending
   pub trace : List ℕ
-  pub whole : IsWholeText default_settings start ending trace
+  pub whole : IsWholeText (program default_settings) start ending trace
   pub told : Appended before after trace
 
 -- a front of the text of one whole run from an image came behind what was written before
@@ -44,5 +45,5 @@ pub record WritesFrontOf (image : List ℕ) (before after : Option (List ℕ)) :
   pub of_image : IsStartOf image start
   pub ending : Ending
   pub trace : List ℕ
-  pub whole : IsWholeText default_settings start ending trace
+  pub whole : IsWholeText (program default_settings) start ending trace
   pub told : AppendedFront before after trace

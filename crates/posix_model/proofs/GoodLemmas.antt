@@ -1,0 +1,302 @@
+-- Each change of which moves are made keeps a good state good.
+use Rattle.std.proofs.Common.{◌≡◌, ◌≢◌, ◌∙◌, ap, sym, refl, subst, inl, inr, ◌⊎◌, ℕ, Bool, true, false, eqb, List, [], ◌∷◌, ◌++◌, None}
+use Rattle.std.proofs.lemmas.Bool.{cases_eq, eqb-true}
+use Rattle.thread_base.specs.Maps.{put}
+use Rattle.thread_base.specs.Numbers.{IsTid}
+use Rattle.thread_base.specs.Orders.{is_in, without, IsOrder}
+use Rattle.thread_base.specs.Priority.{tids}
+use Rattle.thread_base.proofs.MapLemmas.{put_same, put_other}
+use Rattle.thread_base.proofs.OrderLemmas.{IsOrder-push, IsOrder-filter, not_in-without, within, is_in-without, is_in-push, is_in-pushed, is_in-to_end}
+use Rattle.thread_base.proofs.SearchLemmas.{in_tids, find_none, any_none}
+use Rattle.posix_model.specs.State.{State, Thread, Standing, Absent, Ready, Waits, Ended, is_absent, is_ready, is_live, joins}
+use Rattle.posix_model.specs.Changes.{Made, set_thread, append, to_end, await, reply, with_reply, answer}
+use Rattle.posix_model.specs.Threads.{joiner, has_joiner}
+use Rattle.posix_model.specs.Good.{IsGood, MayJoin}
+use Rattle.posix_model.specs.declared.Wait.TheVariants.{Join}
+
+-- what a standing says of the other tests
+ready_live : (st : Standing) → is_ready st ≡ true → (is_absent st ≡ false) × (is_live st ≡ true)
+ready_live Absent h = let e : false ≡ true = h in cc
+ready_live Ready h = (refl, refl)
+ready_live (Waits wait) h = let e : false ≡ true = h in cc
+ready_live (Ended value) h = let e : false ≡ true = h in cc
+
+pub ready_joins : (u : ℕ) (st : Standing) → is_ready st ≡ true → joins u st ≡ false
+ready_joins u Absent h = refl
+ready_joins u Ready h = refl
+ready_joins u (Waits wait) h = let e : false ≡ true = h in cc
+ready_joins u (Ended value) h = refl
+
+pub joins_waits : (u : ℕ) (st : Standing) → joins u st ≡ true → (is_ready st ≡ false) × (is_absent st ≡ false) × (is_live st ≡ true)
+joins_waits u Absent h = absurd (let e : false ≡ true = h in cc)
+joins_waits u Ready h = absurd (let e : false ≡ true = h in cc)
+joins_waits u (Waits wait) h = (refl, refl, refl)
+joins_waits u (Ended value) h = absurd (let e : false ≡ true = h in cc)
+
+never : (b : Bool) → b ≡ true → b ≡ false → ⊥
+never b h k = let e : true ≡ false = sym h ∙ k in absurd (let f : true ≡ false = e in cc)
+
+-- what a map gives after a change
+pub at_same : {A : Type 0} (f : Thread → A) (m : ℕ → Thread) (t u : ℕ) (thread : Thread) → u ≡ t → f (put m t thread u) ≡ f thread
+at_same f m t u thread e = ap (λ v. f (put m t thread v)) e ∙ ap f (put_same m t thread)
+
+pub at_other : {A : Type 0} (f : Thread → A) (m : ℕ → Thread) (t u : ℕ) (thread : Thread) → u ≢ t → f (put m t thread u) ≡ f (m u)
+at_other f m t u thread ne = ap f (put_other m t thread u ne)
+
+kept : {A : Type 0} (f : Thread → A) (m : ℕ → Thread) (t u : ℕ) (thread : Thread) → f thread ≡ f (m t) → f (put m t thread u) ≡ f (m u)
+kept f m t u thread e =
+    elim (cases_eq u t) [
+      | inl same ↦ at_same f m t u thread same ∙ e ∙ ap (λ v. f (m v)) (sym same)
+      | inr other ↦ at_other f m t u thread other
+    ]
+
+-- states that agree on the ready list and on each thread's standing and detachment are good together
+pub good_alike : (s r : State) → r.ready ≡ s.ready → ((u : ℕ) → (r.threads u).standing ≡ (s.threads u).standing)
+    → ((u : ℕ) → (r.threads u).detached ≡ (s.threads u).detached) → IsGood s → IsGood r
+good_alike s r ready standing detached good = record {
+  order = subst IsOrder (sym ready) good.order;
+  listed = λ t. ap (is_in t) ready ∙ good.listed t ∙ ap is_ready (sym (standing t));
+  within = λ t h. good.within t (ap is_absent (sym (standing t)) ∙ h);
+  joining = λ t u h.
+      (let may = good.joining t u (ap (joins u) (sym (standing t)) ∙ h) in
+      record {
+        live = ap is_live (standing u) ∙ may.live;
+        joinable = detached u ∙ may.joinable;
+        alone = λ v k. may.alone v (ap (joins u) (sym (standing v)) ∙ k);
+      });
+}
+
+-- a thread's record changes, but for its standing and its detachment
+pub good_set : (s : State) (t : ℕ) (thread : Thread) → thread.standing ≡ (s.threads t).standing → thread.detached ≡ (s.threads t).detached
+    → IsGood s → IsGood (set_thread s t thread)
+good_set s t thread standing detached good =
+    good_alike s (set_thread s t thread) refl
+    (λ u. kept (λ (x : Thread). x.standing) s.threads t u thread standing)
+    (λ u. kept (λ (x : Thread). x.detached) s.threads t u thread detached)
+    good
+
+pub good_reply : (s : State) (t error value : ℕ) → IsGood s → IsGood (reply s t error value)
+good_reply s t error value good = good_set s t (with_reply (s.threads t) error value) refl refl good
+
+-- a thread's record and the ready list change, and the thread waits for no end
+abbrev pub with_thread : State → ℕ → Thread → List ℕ → State
+with_thread s t thread ready = record s { threads = put s.threads t thread; ready = ready }
+
+module _ (s : State) (t : ℕ) (thread : Thread) (ready : List ℕ) (good : IsGood s) (order : IsOrder ready)
+    (others : (u : ℕ) → u ≢ t → is_in u ready ≡ is_in u s.ready) (mine : is_in t ready ≡ is_ready thread.standing)
+    (inside : is_absent thread.standing ≡ false → IsTid t) (idle : (u : ℕ) → joins u thread.standing ≡ false)
+    (open_to : (v : ℕ) → v ≢ t → joins t (s.threads v).standing ≡ true → (is_live thread.standing ≡ true) × (thread.detached ≡ false)) where
+  new : State
+  new = with_thread s t thread ready
+
+  listed_after : (u : ℕ) → is_in u ready ≡ is_ready (put s.threads t thread u).standing
+  listed_after u =
+      elim (cases_eq u t) [
+        | inl same ↦ ap (λ v. is_in v ready) same ∙ mine ∙ sym (at_same (λ (x : Thread). is_ready x.standing) s.threads t u thread same)
+        | inr other ↦ others u other ∙ good.listed u ∙ sym (at_other (λ (x : Thread). is_ready x.standing) s.threads t u thread other)
+      ]
+
+  within_after : (u : ℕ) → is_absent (put s.threads t thread u).standing ≡ false → IsTid u
+  within_after u h =
+      elim (cases_eq u t) [
+        | inl same ↦ subst IsTid (sym same) (inside (sym (at_same (λ (x : Thread). is_absent x.standing) s.threads t u thread same) ∙ h))
+        | inr other ↦ good.within u (sym (at_other (λ (x : Thread). is_absent x.standing) s.threads t u thread other) ∙ h)
+      ]
+
+  -- who joined before joins now, and is another thread
+  before : (v u : ℕ) → joins u (put s.threads t thread v).standing ≡ true → (v ≢ t) × (joins u (s.threads v).standing ≡ true)
+  before v u h =
+      elim (cases_eq v t) [
+        | inl same ↦ absurd (never (joins u (put s.threads t thread v).standing) h (at_same (λ (x : Thread). joins u x.standing) s.threads t v thread same ∙ idle u))
+        | inr other ↦ (other, sym (at_other (λ (x : Thread). joins u x.standing) s.threads t v thread other) ∙ h)
+      ]
+
+  joined_after : (v u : ℕ) → v ≢ t → joins u (s.threads v).standing ≡ true
+      → (is_live (put s.threads t thread u).standing ≡ true) × ((put s.threads t thread u).detached ≡ false)
+  joined_after v u ne h =
+      elim (cases_eq u t) [
+        | inl same ↦
+            (let may = open_to v ne (subst (λ w. joins w (s.threads v).standing ≡ true) same h) in (
+              at_same (λ (x : Thread). is_live x.standing) s.threads t u thread same ∙ may.0,
+              at_same (λ (x : Thread). x.detached) s.threads t u thread same ∙ may.1,
+            ))
+        | inr other ↦
+            (let may = good.joining v u h in (
+              at_other (λ (x : Thread). is_live x.standing) s.threads t u thread other ∙ may.live,
+              at_other (λ (x : Thread). x.detached) s.threads t u thread other ∙ may.joinable,
+            ))
+      ]
+
+  pub good_with : IsGood (with_thread s t thread ready)
+  good_with = record {
+    order = order;
+    listed = listed_after;
+    within = within_after;
+    joining = λ v u h.
+        (let was = before v u h in
+        let may = joined_after v u was.0 was.1 in
+        record {
+          live = may.0;
+          joinable = may.1;
+          alone = λ w k. (let also = before w u k in (good.joining v u was.1).alone w also.1);
+        });
+  }
+
+-- a ready thread goes to the end of the list
+pub good_to_end : (s : State) (t : ℕ) → IsGood s → is_ready (s.threads t).standing ≡ true → IsGood (to_end s t)
+good_to_end s t good h =
+    let here = good.listed t ∙ h in
+    let range = within s.ready t good.order here in
+    good_with s t (record (s.threads t) { used = 0 }) (without t s.ready ++ t ∷ []) good
+    (IsOrder-push (without t s.ready) t (IsOrder-filter _ s.ready good.order) range.0 range.1 (not_in-without t s.ready))
+    (λ u ne. is_in-to_end t u s.ready here)
+    (is_in-pushed t (without t s.ready) ∙ sym h)
+    (λ e. range)
+    (λ u. ready_joins u (s.threads t).standing h)
+    (λ v ne j. (let may = good.joining v t j in (may.live, may.joinable)))
+
+-- a thread that was not ready becomes ready
+pub good_append : (s : State) (t : ℕ) (thread : Thread) → IsGood s → is_ready (s.threads t).standing ≡ false → IsTid t
+    → ((v : ℕ) → joins t (s.threads v).standing ≡ true → thread.detached ≡ false) → IsGood (append s t thread)
+good_append s t thread good h range open_to =
+    let away = good.listed t ∙ h in
+    good_with s t (record thread { standing = Ready; used = 0 }) (s.ready ++ t ∷ []) good
+    (IsOrder-push s.ready t good.order range.0 range.1 away)
+    (λ u ne. is_in-push t u s.ready ne)
+    (is_in-pushed t s.ready)
+    (λ e. range)
+    (λ u. refl)
+    (λ v ne j. (refl, open_to v j))
+
+-- a thread that nobody joins is gone, or has ended, or is there no more
+pub good_gone : (s : State) (t : ℕ) (thread : Thread) → IsGood s → is_ready thread.standing ≡ false → ((u : ℕ) → joins u thread.standing ≡ false)
+    → (is_absent thread.standing ≡ false → IsTid t) → ((v : ℕ) → joins t (s.threads v).standing ≡ true → ⊥) → IsGood (with_thread s t thread (without t s.ready))
+good_gone s t thread good away idle inside nobody =
+    good_with s t thread (without t s.ready) good
+    (IsOrder-filter _ s.ready good.order)
+    (λ u ne. is_in-without t u s.ready ne)
+    (not_in-without t s.ready ∙ sym away)
+    inside idle
+    (λ v ne j. absurd (nobody v j))
+
+-- a thread's record changes and nobody joins it, and its readiness stays
+pub good_unjoined : (s : State) (t : ℕ) (thread : Thread) → IsGood s → is_ready thread.standing ≡ is_ready (s.threads t).standing → ((u : ℕ) → joins u thread.standing ≡ false)
+    → (is_absent thread.standing ≡ false → IsTid t) → ((v : ℕ) → joins t (s.threads v).standing ≡ true → ⊥) → IsGood (set_thread s t thread)
+good_unjoined s t thread good same idle inside nobody =
+    good_with s t thread s.ready good good.order (λ u ne. refl) (good.listed t ∙ sym same) inside idle (λ v ne j. absurd (nobody v j))
+
+-- a test of equal numbers
+meets : (a b : ℕ) → eqb a b ≡ true → a ≡ b
+meets a b h = eqb-true a b h
+
+-- a ready thread waits for the end of another that nobody joins
+module _ (s : State) (t u : ℕ) (good : IsGood s) (ready : is_ready (s.threads t).standing ≡ true) (apart : u ≢ t)
+    (live : is_live (s.threads u).standing ≡ true) (joinable : (s.threads u).detached ≡ false) (nobody : (v : ℕ) → joins u (s.threads v).standing ≡ true → ⊥) where
+  waiting : Thread
+  waiting = record (s.threads t) { standing = Waits (Join u) }
+
+  -- a thread that joins afterwards is the new joiner, or was one before
+  either : (v w : ℕ) → joins w (put s.threads t waiting v).standing ≡ true → ((v ≡ t) × (u ≡ w)) ⊎ ((v ≢ t) × (joins w (s.threads v).standing ≡ true))
+  unfolding waiting
+  either v w h =
+      elim (cases_eq v t) [
+        | inl same ↦ inl (same, meets u w (sym (at_same (λ (x : Thread). joins w x.standing) s.threads t v waiting same) ∙ h))
+        | inr other ↦ inr (other, sym (at_other (λ (x : Thread). joins w x.standing) s.threads t v waiting other) ∙ h)
+      ]
+
+  detached_same : (w : ℕ) → (put s.threads t waiting w).detached ≡ (s.threads w).detached
+  unfolding waiting
+  detached_same w = kept (λ (x : Thread). x.detached) s.threads t w waiting refl
+
+  live_same : (w : ℕ) → is_live (put s.threads t waiting w).standing ≡ is_live (s.threads w).standing
+  unfolding waiting
+  live_same w = kept (λ (x : Thread). is_live x.standing) s.threads t w waiting (sym (ready_live (s.threads t).standing ready).1)
+
+  may_join : (v w : ℕ) → ((v ≡ t) × (u ≡ w)) ⊎ ((v ≢ t) × (joins w (s.threads v).standing ≡ true)) → MayJoin (await s t (Join u)) v w
+  unfolding waiting
+  may_join v w (inl e) = record {
+    live = live_same w ∙ ap (λ x. is_live (s.threads x).standing) (sym e.1) ∙ live;
+    joinable = detached_same w ∙ ap (λ x. (s.threads x).detached) (sym e.1) ∙ joinable;
+    alone = λ x k. elim (either x w k) [
+      | inl f ↦ f.0 ∙ sym e.0
+      | inr f ↦ absurd (nobody x (subst (λ y. joins y (s.threads x).standing ≡ true) (sym e.1) f.1))
+    ];
+  }
+  may_join v w (inr e) =
+      let may = good.joining v w e.1 in
+      record {
+        live = live_same w ∙ may.live;
+        joinable = detached_same w ∙ may.joinable;
+        alone = λ x k. elim (either x w k) [
+          | inl f ↦ absurd (nobody v (subst (λ y. joins y (s.threads v).standing ≡ true) (sym f.1) e.1))
+          | inr f ↦ may.alone x f.1
+        ];
+      }
+
+  pub good_join : IsGood (await s t (Join u))
+  unfolding waiting
+  good_join = record {
+    order = IsOrder-filter _ s.ready good.order;
+    listed = λ v. elim (cases_eq v t) [
+      | inl same ↦ ap (λ w. is_in w (without t s.ready)) same ∙ not_in-without t s.ready ∙ sym (at_same (λ (x : Thread). is_ready x.standing) s.threads t v waiting same)
+      | inr other ↦ is_in-without t v s.ready other ∙ good.listed v ∙ sym (at_other (λ (x : Thread). is_ready x.standing) s.threads t v waiting other)
+    ];
+    within = λ v h. good.within v (sym (kept (λ (x : Thread). is_absent x.standing) s.threads t v waiting (sym (ready_live (s.threads t).standing ready).0)) ∙ h);
+    joining = λ v w h. may_join v w (either v w h);
+  }
+
+-- where no thread is found that joins, none joins
+pub nobody_joins : (s : State) (u : ℕ) → IsGood s → has_joiner s u ≡ false → (v : ℕ) → joins u (s.threads v).standing ≡ true → ⊥
+nobody_joins s u good none v h =
+    let there = (joins_waits u (s.threads v).standing h).1 in
+    let range = good.within v there in
+    never (joins u (s.threads v).standing) h (any_none (λ w. joins u (s.threads w).standing) tids v none (in_tids v range.0 range.1))
+
+pub no_joiner : (s : State) (u : ℕ) → IsGood s → joiner s u ≡ None → (v : ℕ) → joins u (s.threads v).standing ≡ true → ⊥
+no_joiner s u good none v h =
+    let there = (joins_waits u (s.threads v).standing h).1 in
+    let range = good.within v there in
+    never (joins u (s.threads v).standing) h (find_none (λ w. joins u (s.threads w).standing) tids v none (in_tids v range.0 range.1))
+
+-- nobody waits for the end of a thread that is not there or has ended
+pub unjoined : (s : State) (u : ℕ) → IsGood s → is_live (s.threads u).standing ≡ false → (v : ℕ) → joins u (s.threads v).standing ≡ true → ⊥
+unjoined s u good dead v h = never (is_live (s.threads u).standing) (good.joining v u h).live dead
+
+-- who waits for an end is answered
+pub good_answer : (g : Made) (u t error value : ℕ) → IsGood g.state → joins t (g.state.threads u).standing ≡ true → IsGood (answer g u error value).state
+good_answer g u t error value good h =
+    let waits = joins_waits t (g.state.threads u).standing h in
+    good_append g.state u (with_reply (g.state.threads u) error value) good waits.0 (good.within u waits.1)
+    (λ v j. (good.joining v u j).joinable)
+
+-- a thread that nobody joins is detached
+module _ (s : State) (u : ℕ) (good : IsGood s) (nobody : (v : ℕ) → joins u (s.threads v).standing ≡ true → ⊥) where
+  loose : Thread
+  loose = record (s.threads u) { detached = true }
+
+  same_standing : (w : ℕ) → (put s.threads u loose w).standing ≡ (s.threads w).standing
+  unfolding loose
+  same_standing w = kept (λ (x : Thread). x.standing) s.threads u w loose refl
+
+  still_joinable : (v w : ℕ) → joins w (s.threads v).standing ≡ true → (put s.threads u loose w).detached ≡ false
+  still_joinable v w h =
+      elim (cases_eq w u) [
+        | inl same ↦ absurd (nobody v (subst (λ x. joins x (s.threads v).standing ≡ true) same h))
+        | inr other ↦ at_other (λ (x : Thread). x.detached) s.threads u w loose other ∙ (good.joining v w h).joinable
+      ]
+
+  pub good_detached : IsGood (set_thread s u (record (s.threads u) { detached = true }))
+  unfolding loose
+  good_detached = record {
+    order = good.order;
+    listed = λ t. good.listed t ∙ ap is_ready (sym (same_standing t));
+    within = λ t h. good.within t (ap is_absent (sym (same_standing t)) ∙ h);
+    joining = λ v w h.
+        (let was : joins w (s.threads v).standing ≡ true = ap (joins w) (sym (same_standing v)) ∙ h in
+        let may = good.joining v w was in
+        record {
+          live = ap is_live (same_standing w) ∙ may.live;
+          joinable = still_joinable v w was;
+          alone = λ x k. may.alone x (ap (joins w) (sym (same_standing x)) ∙ k);
+        });
+  }

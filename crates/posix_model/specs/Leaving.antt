@@ -1,0 +1,56 @@
+-- The exit of a thread and its end (POSIX.1 pthread_exit, pthread_join).
+use Rattle.std.specs.Prelude.{ℕ, true, if◌then◌else◌, map, Option, Some, None}
+use Rattle.thread_base.specs.Maps.{put}
+use Rattle.thread_base.specs.Orders.{without}
+use Rattle.posix_model.specs.State.{State, Thread, Leaving, Ended, no_thread}
+use Rattle.posix_model.specs.Changes.{Made, begun, set_thread, answer}
+use Rattle.posix_model.specs.Threads.{joiner, some_live}
+use Rattle.posix_model.specs.Lines.{sig_numbers}
+use Rattle.posix_model.specs.declared.Report.{Report}
+use Rattle.posix_model.specs.declared.Ending.TheVariants.{Exit}
+
+-- the address at which a thread in its exit makes its next exit action: a special address (this project's own)
+abbrev pub cleanup_return : ℕ
+cleanup_return = 0xFFFFFFE0
+
+-- a thread starts its exit with a value, or takes a new value for it; it stays ready
+abbrev pub start_exit : State → ℕ → ℕ → State
+start_exit s t value =
+    set_thread s t (record (s.threads t) { phase = Leaving value; registers = record (s.threads t).registers { pc = cleanup_return } })
+
+-- who waits for the end of a thread is answered its value
+abbrev pub answer_joiner : Made → ℕ → Option ℕ → Made
+answer_joiner g value None = g
+answer_joiner g value (Some u) = answer g u 0 value
+
+-- what is left at the number of a thread that ended: its value, where nobody has got it and somebody may
+abbrev pub left_at : Thread → ℕ → Option ℕ → Thread
+left_at thread value None = if thread.detached then no_thread else record thread { standing = Ended value }
+left_at thread value (Some u) = no_thread
+
+-- a thread is gone from the ready list, and what pends on it is dropped
+abbrev pub without_thread : State → ℕ → Thread → State
+without_thread s t left = record s {
+  threads = put s.threads t left;
+  ready = without t s.ready;
+  pending = put s.pending t (λ sig. 0);
+}
+
+-- where no thread is left that has not ended, the process exits with 0
+abbrev pub over_with_last : State → State
+over_with_last s = if some_live s then s else record s { over = Some (Exit 0) }
+
+-- it is told that a thread ended with a value, and what was dropped with it
+abbrev pub with_end : Report → (ℕ → ℕ) → ℕ → Report
+with_end report dropped value = record report { gone = true; gone_value = value; drops = map dropped sig_numbers }
+
+-- a thread ends, behind the answer to its joiner
+abbrev pub ended : Made → ℕ → Thread → (ℕ → ℕ) → ℕ → Made
+ended g t left dropped value = record { state = over_with_last (without_thread g.state t left); report = with_end g.report dropped value }
+
+abbrev pub end_with : State → ℕ → ℕ → Option ℕ → Made
+end_with s t value who = ended (answer_joiner (begun s) value who) t (left_at (s.threads t) value who) (s.pending t) value
+
+-- the end of a thread with a value
+abbrev pub end_of_thread : State → ℕ → ℕ → Made
+end_of_thread s t value = end_with s t value (joiner s t)

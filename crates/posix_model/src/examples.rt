@@ -1,0 +1,63 @@
+//! Small cases of the definitions, each computed by the checker. The functions do nothing.
+
+ghost use Rattle.posix_model.specs.Examples as examples;
+
+/// The last thread of a chain of waits runs with the priority of the first.
+pub fn chain()
+    ensures { examples.Chain }
+{}
+
+/// The threads of a circle of waits have the priority of a thread that waits behind it.
+pub fn circle()
+    ensures { examples.Circle }
+{}
+
+/// Of equal priorities the first of the ready list runs.
+pub fn first_of_equals()
+    ensures { examples.FirstOfEquals }
+{}
+
+/// A new thread has the least free number and stands behind the others; its creator keeps its place.
+pub fn create()
+    ensures { examples.Create }
+{}
+
+/// Which refusal of create comes first.
+pub fn create_refusals()
+    ensures { examples.CreateRefusals }
+{}
+
+/// A join takes the value of a thread that has ended, and else waits.
+pub fn joins()
+    ensures { examples.Joins }
+{}
+
+/// Which refusal of join comes first.
+pub fn join_refusals()
+    ensures { examples.JoinRefusals }
+{}
+
+/// A detach keeps a thread that goes on, frees one that has ended, and is refused of one that is taken.
+pub fn detaches()
+    ensures { examples.Detaches }
+{}
+
+/// A yield goes behind the others.
+pub fn yields()
+    ensures { examples.Yields }
+{}
+
+/// The end of a thread answers its joiner, frees its number, and with the last thread ends the process.
+pub fn ends()
+    ensures { examples.Ends }
+{}
+
+/// What is not built answers ENOSYS, or is not due.
+pub fn not_built()
+    ensures { examples.NotBuilt }
+{}
+
+/// The lines of a program in which a thread yields, is joined and ends.
+pub fn trace_lines()
+    ensures { examples.Lines }
+{}
