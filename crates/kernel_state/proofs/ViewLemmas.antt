@@ -1,0 +1,173 @@
+-- What the tables show after a change of one thread.
+use Rattle.std.proofs.Common.{◌≡◌, ◌≢◌, ◌∙◌, ap, sym, refl, ℕ, zero, suc, ◌+◌, arith, eqb, Bool, true, false, not, cond, find, ◌||◌, List, [], ◌∷◌, Option, Some, None, is_none}
+use Rattle.std.specs.Prelude.{fold, map, replicate, ◌==◌}
+use Rattle.std.specs.List.{list_any}
+use Rattle.std.proofs.lemmas.Bool.{ne_eqb}
+use Rattle.std.specs.Option.{IsSome}
+use Rattle.thread_base.specs.Maps.{put}
+use Rattle.thread_base.proofs.MapLemmas.{put_is, put_same, put_other, put-put, put_comm, put_got}
+use Rattle.thread_table.specs.declared.Row.{Row}
+use Rattle.posix_model.specs.State.{State, Thread, Registers, Standing, is_absent, is_live, no_thread, none_pending}
+use Rattle.thread_base.specs.Priority.{tids}
+use Rattle.thread_table.specs.Rows.{rows, free_number as free_row, put_found, is_live as live_row, live_count}
+use Rattle.context_frames.specs.declared.Saved.{Saved}
+use Rattle.thread_base.specs.Orders.{without}
+use Rattle.posix_model.specs.Changes.{set_thread}
+use Rattle.posix_model.specs.Leaving.{without_thread, with_end}
+use Rattle.posix_model.specs.Lines.{sig_numbers}
+use Rattle.posix_model.specs.declared.Report.{Report}
+use Rattle.posix_model.specs.Threads.{exists, free_number, some_live}
+use Rattle.kernel_state.specs.View.{context_of, contexts_of, lives_of, pending_of, thread_by, thread_of, threads_of, standing_of, view, with_ready}
+use Rattle.kernel_state.specs.declared.tables.Tables.{Tables}
+use Rattle.kernel_state.specs.declared.life.Life.{Life}
+use Rattle.posix_model.specs.declared.Wait.{Wait}
+
+-- a thread's row, life and context change
+pub threads_put : (rows : ℕ → Option Row) (lives : ℕ → Life) (contexts : ℕ → Registers) (t : ℕ) (row : Row) (life : Life) (regs : Registers)
+    → threads_of (put rows t (Some row)) (put lives t life) (put contexts t regs) ≡ put (threads_of rows lives contexts) t (thread_by row life regs)
+threads_put rows lives contexts t row life regs =
+    put_is (threads_of rows lives contexts) (threads_of (put rows t (Some row)) (put lives t life) (put contexts t regs)) t (thread_by row life regs)
+    (λ i. thread_of (put_same rows t (Some row) i) (put_same lives t life i) (put_same contexts t regs i))
+    (λ u ne i. thread_of (put_other rows t (Some row) u ne i) (put_other lives t life u ne i) (put_other contexts t regs u ne i))
+
+-- a thread's row goes
+pub threads_freed : (rows : ℕ → Option Row) (lives : ℕ → Life) (contexts : ℕ → Registers) (t : ℕ)
+    → threads_of (put rows t None) lives contexts ≡ put (threads_of rows lives contexts) t no_thread
+threads_freed rows lives contexts t =
+    put_is (threads_of rows lives contexts) (threads_of (put rows t None) lives contexts) t no_thread
+    (ap (λ o. thread_of o (lives t) (contexts t)) (put_same rows t None))
+    (λ u ne. ap (λ o. thread_of o (lives u) (contexts u)) (put_other rows t None u ne))
+
+here_by : (ended : Option ℕ) (wait : Option Wait) → is_absent (standing_of ended wait) ≡ false
+here_by (Some value) wait = refl
+here_by None (Some wait) = refl
+here_by None None = refl
+
+-- there is a row exactly where there is a thread
+pub row_absent : (o : Option Row) (life : Life) (regs : Registers) → is_absent (thread_of o life regs).standing ≡ is_none o
+row_absent None life regs = refl
+row_absent (Some row) life regs = here_by row.ended life.wait
+
+there_row : (o : Option Row) (life : Life) (regs : Registers) → not (is_absent (thread_of o life regs).standing) ≡ true → IsSome o
+there_row None life regs h = let e : false ≡ true = h in absurd (cc)
+there_row (Some row) life regs h = refl
+
+-- the context of the thread whose registers are in place, and of another
+pub in_place : (m : ℕ → Registers) (placed t : ℕ) (r : Registers) → t ≡ placed → r ≡ put m placed r t
+in_place m placed t r e = sym (ap (put m placed r) e ∙ put_same m placed r)
+
+pub elsewhere : (saved : ℕ → Saved) (placed t : ℕ) (r : Registers) → t ≢ placed → context_of (saved t) ≡ put (λ u. context_of (saved u)) placed r t
+elsewhere saved placed t r ne = sym (put_other (λ u. context_of (saved u)) placed r t ne)
+
+-- the contexts after a change of the one in place, and of another
+pub placed_anew : (m : ℕ → Registers) (placed t : ℕ) (r q : Registers) → t ≡ placed → put m placed q ≡ put (put m placed r) t q
+placed_anew m placed t r q e = sym (ap (λ u. put (put m placed r) u q) e ∙ put-put m placed r q)
+
+saved_contexts : (saved : ℕ → Saved) (t : ℕ) (s : Saved) → (λ u. context_of (put saved t s u)) ≡ put (λ u. context_of (saved u)) t (context_of s)
+saved_contexts saved t s =
+    put_is (λ u. context_of (saved u)) (λ u. context_of (put saved t s u)) t (context_of s)
+    (ap context_of (put_same saved t s))
+    (λ u ne. ap context_of (put_other saved t s u ne))
+
+pub saved_anew : (saved after : ℕ → Saved) (placed t : ℕ) (r : Registers) (s : Saved) → t ≢ placed → after ≡ put saved t s
+    → put (λ u. context_of (after u)) placed r ≡ put (put (λ u. context_of (saved u)) placed r) t (context_of s)
+saved_anew saved after placed t r s ne e =
+    ap (λ (f : ℕ → Saved). put (λ u. context_of (f u)) placed r) e
+    ∙ ap (λ (m : ℕ → Registers). put m placed r) (saved_contexts saved t s)
+    ∙ put_comm (λ u. context_of (saved u)) t placed (context_of s) r ne
+
+module _ {R : Type 0} (order : R → List ℕ) where
+  -- a thread is kept otherwise, and nothing else changes
+  pub view_kept : (k q : Tables R) (t : ℕ) (row : Row) (life : Life) (regs : Registers)
+      → rows q.threads ≡ put (rows k.threads) t (Some row) → lives_of q.lives ≡ put (lives_of k.lives) t life → contexts_of q ≡ put (contexts_of k) t regs
+      → order q.ready ≡ order k.ready → q.fault ≡ k.fault → q.memory ≡ k.memory → q.over ≡ k.over
+      → view order q ≡ set_thread (view order k) t (thread_by row life regs)
+  unfolding view
+  view_kept k q t row life regs a b c d e f g =
+      let changed : threads_of (rows q.threads) (lives_of q.lives) (contexts_of q) ≡ threads_of (put (rows k.threads) t (Some row)) (put (lives_of k.lives) t life) (put (contexts_of k) t regs) =
+      λ i. threads_of (a i) (b i) (c i) in
+      let threads = changed ∙ threads_put (rows k.threads) (lives_of k.lives) (contexts_of k) t row life regs in
+      λ i. record { threads = threads i; ready = d i; pending = pending_of (e i); memory = f i; over = g i }
+
+  -- there is a row where there is a thread
+  pub view_row : (k : Tables R) (t : ℕ) → exists (view order k) t ≡ true → IsSome (rows k.threads t)
+  unfolding view
+  view_row k t h = there_row (rows k.threads t) (lives_of k.lives t) (contexts_of k t) h
+
+  pub view_thread : (k : Tables R) (t : ℕ) → (view order k).threads t ≡ thread_of (rows k.threads t) (lives_of k.lives t) (contexts_of k t)
+  unfolding view
+  view_thread k t = refl
+
+  -- the least free number of the machine is that of the rows
+  pub view_free : (k : Tables R) → free_number (view order k) ≡ free_row (rows k.threads)
+  unfolding view
+  view_free k = λ i. find (λ t. row_absent (rows k.threads t) (lives_of k.lives t) (contexts_of k t) i) tids
+
+  -- a row of a new thread, at the number that is free
+  pub made_row : (k : Tables R) (t : ℕ) (result : Option ℕ) (map : ℕ → Option Row) (row : Row) → free_number (view order k) ≡ Some t → result ≡ free_row (rows k.threads)
+      → map ≡ put_found (rows k.threads) result row → map ≡ put (rows k.threads) t (Some row)
+  made_row k t result map row free found after =
+      after ∙ ap (λ o. put_found (rows k.threads) o row) (found ∙ sym (view_free k) ∙ free)
+
+  -- the number of a thread is free
+  pub view_freed : (k q : Tables R) (t : ℕ) → rows q.threads ≡ put (rows k.threads) t None → q.lives ≡ k.lives → contexts_of q ≡ contexts_of k
+      → order q.ready ≡ order k.ready → q.fault ≡ k.fault → q.memory ≡ k.memory → q.over ≡ k.over
+      → view order q ≡ set_thread (view order k) t no_thread
+  unfolding view
+  view_freed k q t a b c d e f g =
+      let changed : threads_of (rows q.threads) (lives_of q.lives) (contexts_of q) ≡ threads_of (put (rows k.threads) t None) (lives_of k.lives) (contexts_of k) =
+      λ i. threads_of (a i) (lives_of (b i)) (c i) in
+      let threads = changed ∙ threads_freed (rows k.threads) (lives_of k.lives) (contexts_of k) t in
+      λ i. record { threads = threads i; ready = d i; pending = pending_of (e i); memory = f i; over = g i }
+
+live_by : (ended : Option ℕ) (wait : Option Wait) → is_live (standing_of ended wait) ≡ is_none ended
+live_by (Some value) wait = refl
+live_by None (Some wait) = refl
+live_by None None = refl
+
+-- a thread has not ended where its row says so
+row_live : (o : Option Row) (life : Life) (regs : Registers) → is_live (thread_of o life regs).standing ≡ live_row o
+row_live None life regs = refl
+row_live (Some row) life regs = live_by row.ended life.wait
+
+or_true : (b : Bool) → b || true ≡ true
+or_true true = refl
+or_true false = refl
+
+or_false : (b : Bool) → b ≡ b || false
+or_false true = refl
+or_false false = refl
+
+counted : (b : Bool) (n : ℕ) (rest : Bool) → not ((n + cond b 1 0) == 0) || rest ≡ not (n == 0) || (b || rest)
+counted true n rest = let e : eqb (n + 1) 0 ≡ false = ne_eqb (n + 1) 0 (λ h. omega (arith, h)) in rw e (sym (or_true (not (n == 0))))
+counted false n rest = let e : n + 0 ≡ n = omega arith in rw e refl
+
+-- some member passes exactly where the count of those that do is not 0
+some_counted : (p : ℕ → Bool) (xs : List ℕ) (n : ℕ) → not (fold (λ a x. a + cond (p x) 1 0) n xs == 0) ≡ not (n == 0) || list_any p xs
+some_counted p [] n = or_false (not (n == 0))
+some_counted p (x ∷ xs) n = some_counted p xs (n + cond (p x) 1 0) ∙ counted (p x) n (list_any p xs)
+
+module _ {R : Type 0} (order : R → List ℕ) where
+  -- some thread has not ended exactly where the count of those is not 0
+  pub view_live : (k : Tables R) (n : ℕ) → n ≡ live_count (rows k.threads) → not (n == 0) ≡ some_live (view order k)
+  unfolding view
+  view_live k n e =
+      ap (λ m. not (m == 0)) e
+      ∙ some_counted (λ t. live_row (rows k.threads t)) tids 0
+      ∙ sym (λ i. list_any (λ t. row_live (rows k.threads t) (lives_of k.lives t) (contexts_of k t) i) tids)
+
+-- a thread is gone, and nothing pended on it
+pub gone_calmly : (s : State) (t : ℕ) (left : Thread) → s.pending ≡ none_pending → with_ready (set_thread s t left) (without t s.ready) ≡ without_thread s t left
+gone_calmly s t left calm =
+    let same : put s.pending t (λ sig. 0) ≡ s.pending = ap (λ (m : ℕ → ℕ → ℕ). put m t (λ sig. 0)) calm ∙ put_got none_pending t ∙ sym calm in
+    λ i. record (set_thread s t left) { ready = without t s.ready; pending = sym same i }
+
+none_dropped : map (none_pending 0) sig_numbers ≡ replicate 32 0
+unfolding sig_numbers
+none_dropped = refl
+
+-- its end is told, with nothing that was dropped
+pub told_end : (report : Report) (pending : ℕ → ℕ → ℕ) (t value : ℕ) → pending ≡ none_pending
+    → record report { drops = replicate 32 0; gone = true; gone_value = value } ≡ with_end report (pending t) value
+told_end report pending t value calm =
+    λ i. record report { drops = (sym none_dropped ∙ ap (λ (m : ℕ → ℕ → ℕ). map (m t) sig_numbers) (sym calm)) i; gone = true; gone_value = value }

@@ -1,0 +1,20 @@
+use Rattle.std.proofs.Common.{◌∙◌, ap}
+use Rattle.thread_table.specs.Rows.{rows}
+use Rattle.kernel_state.specs.View.{lives_of, registers_of}
+use Rattle.kernel_state.specs.declared.tables.Tables.{Tables}
+use Rattle.kernel_state.proofs.ViewLemmas.{made_row, view_kept}
+use Rattle.kernel_state.proofs.tables.Tables.add.Goals as goal
+
+pub returns-clause-view : goal.returns-clause-view
+returns-clause-view g c =
+    let k = c.args.self.now in
+    let rest = c.put_context.ensures.rest in
+    let row = made_row g.R.Ready.order k c.args.t c.make-number.result (rows c.make-number.new.self) c.args.kept.row c.requires c.make-number.ensures.number c.make-number.ensures.after in
+    view_kept g.R.Ready.order k c.put_context.new.self c.args.t c.args.kept.row c.args.kept.life (registers_of c.args.kept.regs)
+    (ap (λ (x : Tables _). rows x.threads) rest ∙ row)
+    (ap (λ (x : Tables _). lives_of x.lives) rest ∙ c.put.ensures)
+    c.put_context.ensures.contexts
+    (ap (λ (x : Tables _). g.R.Ready.order x.ready) rest)
+    (ap (λ (x : Tables _). x.fault) rest)
+    (ap (λ (x : Tables _). x.memory) rest)
+    (ap (λ (x : Tables _). x.over) rest)

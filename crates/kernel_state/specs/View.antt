@@ -1,0 +1,104 @@
+-- The machine state that the kernel's tables show.
+use Rattle.std.specs.Prelude.{ℕ, ◌+◌, ◌≡◌, true, false, List, [], ◌∷◌, Option, Some, None}
+use Rattle.thread_base.specs.Maps.{put, numbered}
+use Rattle.thread_base.specs.Orders.{is_in}
+use Rattle.thread_base.specs.declared.Policy.TheVariants.{Other}
+use Rattle.rv_exec.specs.declared.Regs.{Regs}
+use Rattle.thread_table.specs.Rows.{rows}
+use Rattle.thread_table.specs.declared.Row.{Row}
+use Rattle.context_frames.specs.Contexts.{saved_of}
+use Rattle.context_frames.specs.declared.Saved.{Saved}
+use Rattle.context_frames.specs.declared.Saved.TheVariants.{User, Tail, Fresh}
+use Rattle.posix_model.specs.State.{State, Thread, Registers, Phase, Normal, Leaving, Standing, Ready, Waits, Ended, no_thread, none_pending}
+use Rattle.posix_model.specs.Scheduling.{own}
+use Rattle.posix_model.specs.Changes.{Made}
+use Rattle.posix_model.specs.declared.Wait.{Wait}
+use Rattle.kernel_state.specs.declared.life.Life.{Life}
+use Rattle.kernel_state.specs.declared.life.Lives.{Lives}
+use Rattle.kernel_state.specs.declared.tables.Fault.{Fault}
+use Rattle.kernel_state.specs.declared.tables.Kept.{Kept}
+use Rattle.kernel_state.specs.declared.tables.Tables.{Tables}
+
+-- the registers of a context
+abbrev pub registers_of : Regs → Registers
+registers_of r = record { pc = r.pc; x = r.x }
+
+abbrev pub context_of : Saved → Registers
+context_of (User r) = registers_of r
+context_of (Tail r step) = registers_of r
+context_of (Fresh r) = registers_of r
+
+-- nothing is kept beside a row and a context
+abbrev pub no_life : Life
+no_life = record { wait = None; leaving = None }
+
+-- what is kept of each thread beside its row and its context
+unfoldable pub lives_of : Lives → ℕ → Life
+lives_of table = numbered no_life table.lives
+
+abbrev pub phase_of : Option ℕ → Phase
+phase_of None = Normal
+phase_of (Some value) = Leaving value
+
+abbrev pub standing_of : Option ℕ → Option Wait → Standing
+standing_of (Some value) wait = Ended value
+standing_of None (Some wait) = Waits wait
+standing_of None None = Ready
+
+-- a thread's record
+abbrev pub thread_by : Row → Life → Registers → Thread
+thread_by row life registers = record {
+  registers = registers;
+  base = row.base;
+  policy = row.policy;
+  used = row.used;
+  detached = row.detached;
+  phase = phase_of life.leaving;
+  standing = standing_of row.ended life.wait;
+}
+
+abbrev pub thread_of : Option Row → Life → Registers → Thread
+thread_of None life registers = no_thread
+thread_of (Some row) life registers = thread_by row life registers
+
+abbrev pub threads_of : (ℕ → Option Row) → (ℕ → Life) → (ℕ → Registers) → ℕ → Thread
+threads_of rows lives contexts t = thread_of (rows t) (lives t) (contexts t)
+
+-- a thread's record as the tables keep it
+abbrev pub kept_thread : Kept → Thread
+kept_thread k = thread_by k.row k.life (registers_of k.regs)
+
+-- what pends: the signal of a fault that is not delivered yet
+abbrev pub pending_of : Option Fault → ℕ → ℕ → ℕ
+pending_of None = none_pending
+pending_of (Some fault) = put none_pending fault.thread (put (none_pending fault.thread) fault.signal 1)
+
+-- the registers of each thread: those in place, and else those that were saved
+abbrev pub contexts_of : {R : Type 0} → Tables R → ℕ → Registers
+contexts_of k = put (λ t. context_of (saved_of k.frames t)) k.placed (registers_of k.regs)
+
+-- the machine state that the tables show
+unfoldable pub view : {R : Type 0} → (R → List ℕ) → Tables R → State
+view order k = record {
+  threads = threads_of (rows k.threads) (lives_of k.lives) (contexts_of k);
+  ready = order k.ready;
+  pending = pending_of k.fault;
+  memory = k.memory;
+  over = k.over;
+}
+
+-- the state, with what has been told so far of the move in progress
+unfoldable pub made : {R : Type 0} → (R → List ℕ) → Tables R → Made
+made order k = record { state = view order k; report = k.report }
+
+-- the row of thread 1 at the start
+abbrev pub main_row : Row
+main_row = record { base = 8; policy = Other; used = 0; detached = false; joiner = None; ended = None }
+
+-- another ready list
+abbrev pub with_ready : State → List ℕ → State
+with_ready s ready = record s { ready = ready }
+
+-- priorities are those of the threads in the ready list, each its own
+unfoldable pub AreCurrent : (ℕ → ℕ) → State → Type 0
+AreCurrent prios s = (t : ℕ) → is_in t s.ready ≡ true → prios t ≡ own s t

@@ -1,0 +1,120 @@
+ghost use Rattle.std.specs.Prelude.{◌≡◌, ◌<◌, ◌++◌, [], ◌∷◌, false, IfOk, length};
+ghost use Rattle.posix_model.specs.Reports.{nothing_told};
+ghost use Rattle.posix_model.specs.Start.{start_state};
+ghost use Rattle.kernel_state.specs.View.{view, made, AreCurrent};
+ghost use Rattle.kernel_state.specs.Changing.{owed, AllCan};
+ghost use Rattle.kernel_state.specs.Moves.{owed_by, told_by, is_nil};
+
+use crate::change::Change;
+use crate::tables::Tables;
+use arrayvec::ArrayVec;
+use elf_image::EntryPoint;
+use posix_model::{Head, Report, Settings};
+use ready_queues::Ready;
+use rv_exec::Memory;
+use std::alloc::Global;
+use thread_base::{NoMemory, Tid};
+
+/// The kernel: all tables, and of the move in progress the small changes that are still to be made, its
+/// thread and its main line.
+#[derive(Drop)]
+pub struct Kernel<R: Ready + Drop> {
+    pub(crate) tables: Tables<R>,
+    pub(crate) rest: ArrayVec<Change, 8>,
+    pub(crate) tid: u32,
+    pub(crate) head: Head,
+    pub(crate) settings: Settings,
+}
+
+impl<R: Ready + Drop> Kernel<R> {
+    /// The kernel at the start of a run, over an empty ready list: the machine's start, and no move is in
+    /// progress. NoMemory is free.
+    pub fn new(
+        alloc: Global,
+        ready: R,
+        memory: Memory,
+        entry: EntryPoint,
+        settings: Settings,
+    ) -> Result<Kernel<R>, NoMemory>
+        requires { R.order ready ≡ [] }
+        ensures start { IfOk result (λ k. view R.order k.tables ≡ start_state memory entry.0) }
+        ensures current { IfOk result (λ k. AreCurrent (R.prio k.tables.ready) (view R.order k.tables)) }
+        ensures idle { IfOk result (λ k. k.rest.items ≡ []) }
+        ensures untold { IfOk result (λ k. k.tables.report ≡ nothing_told) }
+        ensures settings { IfOk result (λ k. k.settings ≡ settings) }
+    {
+        Ok(Kernel {
+            tables: Tables::new(alloc, ready, memory, entry)?,
+            rest: ArrayVec::new(),
+            tid: 0,
+            head: Head::Quiet,
+            settings,
+        })
+    }
+
+    /// All tables.
+    pub fn tables(&self) -> &Tables<R>
+        ensures { result.now ≡ self.now.tables }
+    {
+        &self.tables
+    }
+
+    /// Whether no move is in progress.
+    pub fn is_idle(&self) -> bool
+        ensures { result ≡ is_nil self.now.rest.items }
+    {
+        self.rest.is_empty()
+    }
+
+    /// Notes a small change that the move in progress still has to make, behind those noted before.
+    pub fn note(&mut self, change: Change)
+        requires { length self.old.rest.items < 8 }
+        ensures rest { self.new.rest.items ≡ self.old.rest.items ++ change ∷ [] }
+        ensures others { self.new ≡ record self.old { rest = self.new.rest } }
+    {
+        self.rest.push(change);
+    }
+
+    /// Notes the thread and the main line of the move in progress.
+    pub fn note_head(&mut self, t: Tid, head: Head)
+        ensures { self.new ≡ record self.old { tid = t; head = head } }
+    {
+        self.tid = t.number();
+        self.head = head;
+    }
+
+    /// Makes the next small change of the move in progress: what is owed stays, and less is left.
+    pub fn step(&mut self)
+        requires left { is_nil self.old.rest.items ≡ false }
+        requires can { AllCan (made R.order self.old.tables) self.old.rest.items }
+        ensures owed { owed_by R.order self.new ≡ owed_by R.order self.old }
+        ensures can { AllCan (made R.order self.new.tables) self.new.rest.items }
+        ensures shorter { length self.new.rest.items < length self.old.rest.items }
+        ensures current { AreCurrent (R.prio self.old.tables.ready) (view R.order self.old.tables) → AreCurrent (R.prio self.new.tables.ready) (view R.order self.new.tables) }
+        ensures head { self.new.head ≡ self.old.head }
+        ensures tid { self.new.tid ≡ self.old.tid }
+        ensures settings { self.new.settings ≡ self.old.settings }
+    {
+        let change = self.rest.remove(0);
+        self.tables.make(change);
+    }
+
+    /// The report of a move whose changes are all made; the next one begins with nothing told.
+    #[tactic(auto, unfolding(crate::specs::View::view, crate::specs::View::made))]
+    pub fn take_report(&mut self) -> Report
+        ensures report { result ≡ (told_by self.old.tid self.old.head (made R.order self.old.tables)).report }
+        ensures view { view R.order self.new.tables ≡ view R.order self.old.tables }
+        ensures untold { self.new.tables.report ≡ nothing_told }
+        ensures ready { self.new.tables.ready ≡ self.old.tables.ready }
+        ensures rest { self.new.rest ≡ self.old.rest }
+        ensures settings { self.new.settings ≡ self.old.settings }
+    {
+        let report = Report {
+            tid: self.tid,
+            head: self.head,
+            ..self.tables.report
+        };
+        self.tables.report = Report::nothing();
+        report
+    }
+}

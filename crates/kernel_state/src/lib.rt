@@ -1,0 +1,13 @@
+//! All tables of the kernel, the machine state that they show, and the small changes of it.
+#![tactic(auto)]
+
+mod change;
+mod changes;
+mod kernel;
+mod life;
+mod tables;
+
+pub use change::{Beginning, Change};
+pub use kernel::Kernel;
+pub use life::{Life, Lives};
+pub use tables::{Fault, Kept, Tables};

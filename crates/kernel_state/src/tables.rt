@@ -1,0 +1,248 @@
+ghost use Rattle.std.specs.Prelude.{◌≡◌, ◌++◌, [], ◌∷◌, true, false, Some, None, IfSome, is_some, IfOk, length};
+ghost use Rattle.std.specs.Option.{option_map};
+ghost use Rattle.thread_base.specs.Orders.{is_in, without, IsOrder};
+ghost use Rattle.posix_model.specs.State.{no_thread, is_absent};
+ghost use Rattle.posix_model.specs.Changes.{set_thread};
+ghost use Rattle.posix_model.specs.Reports.{nothing_told};
+ghost use Rattle.posix_model.specs.Scheduling.{chosen};
+ghost use Rattle.posix_model.specs.Start.{start_state, start_registers};
+ghost use Rattle.posix_model.specs.Threads.{exists, free_number, some_live};
+ghost use Rattle.thread_base.specs.Maps.{put};
+ghost use Rattle.kernel_state.specs.View.{view, made, kept_thread, registers_of, context_of, contexts_of, with_ready, main_row, AreCurrent};
+
+use crate::life::{Life, Lives};
+use context_frames::{Frames, Saved};
+use elf_image::EntryPoint;
+use posix_model::{Ending, Report};
+use ready_queues::Ready;
+use rv_exec::{BASE, Memory, Regs, START_RETURN};
+use std::alloc::Global;
+use thread_base::{NoMemory, Policy, Prio, Sig, Tid};
+use thread_table::{Row, Threads};
+
+/// A fault that is not delivered yet: its thread and its signal.
+#[derive(Clone, Copy, Debug, PartialEq, Eq)]
+pub struct Fault {
+    pub thread: Tid,
+    pub signal: Sig,
+}
+
+/// All that the tables keep of a thread.
+#[derive(Clone, Copy, Debug)]
+pub struct Kept {
+    pub row: Row,
+    pub life: Life,
+    pub regs: Regs,
+}
+
+/// All tables, the memory, and what has been told of the move in progress. Clauses see the machine state
+/// that it shows.
+#[derive(Drop)]
+pub struct Tables<R: Ready + Drop> {
+    pub(crate) threads: Threads,
+    pub(crate) ready: R,
+    pub(crate) lives: Lives,
+    pub(crate) frames: Frames,
+    pub(crate) regs: Regs,
+    pub(crate) placed: Tid,
+    pub(crate) memory: Memory,
+    pub(crate) fault: Option<Fault>,
+    pub(crate) over: Option<Ending>,
+    pub(crate) report: Report,
+}
+
+impl<R: Ready + Drop> Tables<R> {
+    /// The tables at the start of a run: thread 1 stands at the entry, with its stack at the window's end, and
+    /// is ready. NoMemory is free.
+    pub(crate) fn new(
+        alloc: Global,
+        mut ready: R,
+        memory: Memory,
+        entry: EntryPoint,
+    ) -> Result<Tables<R>, NoMemory>
+        requires { R.order ready ≡ [] }
+        ensures start { IfOk result (λ k. view R.order k ≡ start_state memory entry.0) }
+        ensures current { IfOk result (λ k. AreCurrent (R.prio k.ready) (view R.order k)) }
+        ensures untold { IfOk result (λ k. k.report ≡ nothing_told) }
+    {
+        let main = Tid::at(0);
+        let base = first_priority();
+        let frames = Frames::new(alloc)?;
+        let mut threads = Threads::new();
+        let _number = threads.make(first_row());
+        ready.append(main, base);
+        Ok(Tables {
+            threads,
+            ready,
+            lives: Lives::new(),
+            frames,
+            regs: first_regs(&memory, entry),
+            placed: main,
+            memory,
+            fault: None,
+            over: None,
+            report: Report::nothing(),
+        })
+    }
+
+    /// The thread that runs: the first ready one of greatest priority; None exactly where none is ready.
+    pub fn chosen(&self) -> Option<Tid>
+        requires { AreCurrent (R.prio self.now.ready) (view R.order self.now) }
+        ensures { result ≡ chosen (view R.order self.now) }
+    {
+        self.ready.chosen()
+    }
+
+    /// The context of a thread: the registers in place, or those that were saved.
+    fn context(&self, t: Tid) -> Regs
+        ensures { registers_of result ≡ contexts_of self.now t }
+    {
+        if t.number() == self.placed.number() {
+            return self.regs;
+        }
+        saved_regs(self.frames.saved(t))
+    }
+
+    /// Gives a thread another context; those of the others stay.
+    fn put_context(&mut self, t: Tid, regs: Regs)
+        ensures contexts { contexts_of self.new ≡ put (contexts_of self.old) t (registers_of regs) }
+        ensures rest { self.new ≡ record self.old { frames = self.new.frames; regs = self.new.regs } }
+    {
+        if t.number() == self.placed.number() {
+            self.regs = regs;
+        } else {
+            self.frames.save(t, Saved::User(regs));
+        }
+    }
+
+    /// What the tables keep of a thread; None exactly where there is none.
+    pub fn kept(&self, t: Tid) -> Option<Kept>
+        ensures thread { IfSome result (λ k. kept_thread k ≡ (view R.order self.now).threads t) }
+        ensures there { is_some result ≡ exists (view R.order self.now) t }
+    {
+        match self.threads.row(t) {
+            None => None,
+            Some(row) => Some(Kept {
+                row,
+                life: self.lives.life(t),
+                regs: self.context(t),
+            }),
+        }
+    }
+
+    /// Changes what the tables keep of a thread that is there; the others stay.
+    pub(crate) fn keep(&mut self, t: Tid, kept: Kept)
+        requires { exists (view R.order self.old) t ≡ true }
+        ensures view { view R.order self.new ≡ set_thread (view R.order self.old) t (kept_thread kept) }
+        ensures report { self.new.report ≡ self.old.report }
+        ensures ready { self.new.ready ≡ self.old.ready }
+    {
+        self.threads.put(t, kept.row);
+        self.lives.put(t, kept.life);
+        self.put_context(t, kept.regs);
+    }
+
+    /// Keeps a new thread, of the least number that is free.
+    pub(crate) fn add(&mut self, t: Tid, kept: Kept)
+        requires { free_number (view R.order self.old) ≡ Some t }
+        ensures view { view R.order self.new ≡ set_thread (view R.order self.old) t (kept_thread kept) }
+        ensures report { self.new.report ≡ self.old.report }
+        ensures ready { self.new.ready ≡ self.old.ready }
+    {
+        let _number = self.threads.make(kept.row);
+        self.lives.put(t, kept.life);
+        self.put_context(t, kept.regs);
+    }
+
+    /// Keeps nothing more of a thread that is there: its number is free.
+    pub(crate) fn remove(&mut self, t: Tid)
+        requires { exists (view R.order self.old) t ≡ true }
+        ensures view { view R.order self.new ≡ set_thread (view R.order self.old) t no_thread }
+        ensures report { self.new.report ≡ self.old.report }
+        ensures ready { self.new.ready ≡ self.old.ready }
+    {
+        self.threads.free(t);
+    }
+
+    /// Whether some thread has not ended.
+    pub fn some_live(&self) -> bool
+        ensures { result ≡ some_live (view R.order self.now) }
+    {
+        self.threads.live() != 0
+    }
+
+    /// Puts a ready thread behind the others.
+    #[tactic(auto, unfolding(crate::specs::View::view))]
+    pub(crate) fn put_last(&mut self, t: Tid)
+        requires { is_in t (view R.order self.old).ready ≡ true }
+        ensures view { view R.order self.new ≡ with_ready (view R.order self.old) (without t (view R.order self.old).ready ++ t ∷ []) }
+        ensures prio { R.prio self.new.ready ≡ R.prio self.old.ready }
+        ensures report { self.new.report ≡ self.old.report }
+    {
+        self.ready.to_tail(t);
+    }
+
+    /// Puts a thread that was not ready behind those that are.
+    #[tactic(auto, unfolding(crate::specs::View::view))]
+    pub(crate) fn put_behind(&mut self, t: Tid, base: Prio)
+        requires { is_in t (view R.order self.old).ready ≡ false }
+        ensures view { view R.order self.new ≡ with_ready (view R.order self.old) ((view R.order self.old).ready ++ t ∷ []) }
+        ensures prio { R.prio self.new.ready ≡ put (R.prio self.old.ready) t base }
+        ensures report { self.new.report ≡ self.old.report }
+    {
+        self.ready.append(t, base);
+    }
+
+    /// Takes a ready thread out.
+    #[tactic(auto, unfolding(crate::specs::View::view))]
+    pub(crate) fn take_out(&mut self, t: Tid)
+        requires { is_in t (view R.order self.old).ready ≡ true }
+        ensures view { view R.order self.new ≡ with_ready (view R.order self.old) (without t (view R.order self.old).ready) }
+        ensures prio { R.prio self.new.ready ≡ R.prio self.old.ready }
+        ensures report { self.new.report ≡ self.old.report }
+    {
+        self.ready.remove(t);
+    }
+}
+
+/// The registers of a context.
+fn saved_regs(saved: Saved) -> Regs
+    ensures { registers_of result ≡ context_of saved }
+{
+    match saved {
+        Saved::User(regs) => regs,
+        Saved::Tail(regs, _) => regs,
+        Saved::Fresh(regs) => regs,
+    }
+}
+
+/// The priority of thread 1.
+fn first_priority() -> Prio
+    ensures { result ≡ 8 }
+{
+    Prio::new(8).unwrap()
+}
+
+/// The row of thread 1: policy OTHER, and it can be joined.
+fn first_row() -> Row
+    ensures { result ≡ main_row }
+{
+    Row {
+        base: first_priority(),
+        policy: Policy::Other,
+        used: 0,
+        detached: false,
+        joiner: None,
+        ended: None,
+    }
+}
+
+/// The registers of thread 1 at the start.
+fn first_regs(memory: &Memory, entry: EntryPoint) -> Regs
+    ensures { registers_of result ≡ start_registers (length memory.now) entry.0 }
+{
+    let mut x = [0u32; 32];
+    x[1] = START_RETURN;
+    x[2] = BASE + memory.size();
+    Regs { pc: entry.0, x }
+}
