@@ -1,5 +1,5 @@
 -- What the tables show after a change of one thread.
-use Rattle.std.proofs.Common.{◌≡◌, ◌≢◌, ◌∙◌, ap, sym, refl, ℕ, zero, suc, ◌+◌, arith, eqb, Bool, true, false, not, cond, find, ◌||◌, List, [], ◌∷◌, Option, Some, None, is_none}
+use Rattle.std.proofs.Common.{◌≡◌, ◌≢◌, ◌∙◌, ap, sym, refl, ℕ, zero, suc, ◌+◌, arith, eqb, Bool, true, false, not, cond, find, ◌||◌, List, [], ◌∷◌, Option, Some, None, is_none, is_some}
 use Rattle.std.specs.Prelude.{fold, map, replicate, ◌==◌}
 use Rattle.std.specs.List.{list_any}
 use Rattle.std.proofs.lemmas.Bool.{ne_eqb}
@@ -171,3 +171,12 @@ pub told_end : (report : Report) (pending : ℕ → ℕ → ℕ) (t value : ℕ)
     → record report { drops = replicate 32 0; gone = true; gone_value = value } ≡ with_end report (pending t) value
 told_end report pending t value calm =
     λ i. record report { drops = (sym none_dropped ∙ ap (λ (m : ℕ → ℕ → ℕ). map (m t) sig_numbers) (sym calm)) i; gone = true; gone_value = value }
+
+-- some member passes exactly where one is found
+pub any_found : (p : ℕ → Bool) (xs : List ℕ) → is_some (find p xs) ≡ list_any p xs
+any_found p [] = refl
+any_found p (x ∷ xs) = by (p x) (any_found p xs)
+  where
+    by : (b : Bool) → is_some (find p xs) ≡ list_any p xs → is_some (cond b (Some x) (find p xs)) ≡ b || list_any p xs
+    by true e = refl
+    by false e = e

@@ -18,17 +18,6 @@ use thread_base::{Prio, Sig, Tid};
 use thread_table::Row;
 
 impl<R: Ready + Drop> Tables<R> {
-    /// What the tables keep of a thread that is there.
-    fn there(&self, t: Tid) -> Kept
-        requires { exists (view R.order self.now) t ≡ true }
-        ensures { kept_thread result ≡ (view R.order self.now).threads t }
-    {
-        match self.kept(t) {
-            Some(kept) => kept,
-            None => unreachable!(),
-        }
-    }
-
     /// The base priority of a thread that is there.
     fn base(&self, t: Tid) -> Prio
         requires { exists (view R.order self.now) t ≡ true }

@@ -1,12 +1,14 @@
 ghost use Rattle.std.specs.Prelude.{◌≡◌, ◌++◌, [], ◌∷◌, true, false, Some, None, IfSome, is_some, IfOk, length};
 ghost use Rattle.std.specs.Option.{option_map};
 ghost use Rattle.thread_base.specs.Orders.{is_in, without, IsOrder};
-ghost use Rattle.posix_model.specs.State.{no_thread, is_absent};
+ghost use Rattle.posix_model.specs.State.{no_thread, is_absent, joins};
+ghost use Rattle.posix_model.specs.Good.{IsGood};
+ghost use Rattle.posix_model.specs.Calls.{is_taken};
 ghost use Rattle.posix_model.specs.Changes.{set_thread};
 ghost use Rattle.posix_model.specs.Reports.{nothing_told};
 ghost use Rattle.posix_model.specs.Scheduling.{chosen};
 ghost use Rattle.posix_model.specs.Start.{start_state, start_registers};
-ghost use Rattle.posix_model.specs.Threads.{exists, free_number, some_live};
+ghost use Rattle.posix_model.specs.Threads.{exists, free_number, joiner, some_live};
 ghost use Rattle.thread_base.specs.Maps.{put};
 ghost use Rattle.kernel_state.specs.View.{view, made, kept_thread, registers_of, context_of, contexts_of, with_ready, main_row, AreCurrent};
 
@@ -33,6 +35,21 @@ pub struct Kept {
     pub row: Row,
     pub life: Life,
     pub regs: Regs,
+}
+
+impl Kept {
+    /// Whether the thread waits for the end of another.
+    fn joins(self, t: Tid) -> bool
+        ensures { result ≡ joins t (kept_thread self).standing }
+    {
+        if self.row.ended.is_some() {
+            return false;
+        }
+        match self.life.wait {
+            None => false,
+            Some(wait) => wait.is_for_end_of(t),
+        }
+    }
 }
 
 /// All tables, the memory, and what has been told of the move in progress. Clauses see the machine state
@@ -128,6 +145,86 @@ impl<R: Ready + Drop> Tables<R> {
                 regs: self.context(t),
             }),
         }
+    }
+
+    /// Whether there is a thread, which may have ended.
+    pub fn exists(&self, t: Tid) -> bool
+        ensures { result ≡ exists (view R.order self.now) t }
+    {
+        self.kept(t).is_some()
+    }
+
+    /// The thread of a number; None exactly where there is none.
+    pub fn thread(&self, number: u32) -> Option<Tid>
+        requires { IsGood (view R.order self.now) }
+        ensures there { is_some result ≡ exists (view R.order self.now) number }
+        ensures number { IfSome result (λ t. t ≡ number) }
+    {
+        let t = Tid::new(number)?;
+        if self.exists(t) { Some(t) } else { None }
+    }
+
+    /// Whether a thread waits for the end of another.
+    fn joins(&self, u: Tid, t: Tid) -> bool
+        ensures { result ≡ joins t ((view R.order self.now).threads u).standing }
+    {
+        match self.kept(u) {
+            None => false,
+            Some(kept) => kept.joins(t),
+        }
+    }
+
+    /// The thread that waits for the end of another; None exactly where none does.
+    pub fn joiner(&self, t: Tid) -> Option<Tid>
+        ensures { result ≡ joiner (view R.order self.now) t }
+    {
+        for index in 0..64 {
+            let u = Tid::at(index);
+            if self.joins(u, t) {
+                return Some(u);
+            }
+        }
+        None
+    }
+
+    /// The least number that no thread has; None exactly where 64 are in use.
+    pub fn free_number(&self) -> Option<Tid>
+        ensures { result ≡ free_number (view R.order self.now) }
+    {
+        for index in 0..64 {
+            let t = Tid::at(index);
+            if !self.exists(t) {
+                return Some(t);
+            }
+        }
+        None
+    }
+
+    /// Whether nobody may join or detach a thread any more.
+    pub fn is_taken(&self, t: Tid) -> bool
+        requires { exists (view R.order self.now) t ≡ true }
+        ensures { result ≡ is_taken (view R.order self.now) t }
+    {
+        self.there(t).row.detached || self.joiner(t).is_some()
+    }
+
+    /// What the tables keep of a thread that is there.
+    pub fn there(&self, t: Tid) -> Kept
+        requires { exists (view R.order self.now) t ≡ true }
+        ensures { kept_thread result ≡ (view R.order self.now).threads t }
+    {
+        match self.kept(t) {
+            Some(kept) => kept,
+            None => unreachable!(),
+        }
+    }
+
+    /// The memory.
+    #[tactic(auto, unfolding(crate::specs::View::view))]
+    pub fn memory(&self) -> &Memory
+        ensures { result.now ≡ (view R.order self.now).memory }
+    {
+        &self.memory
     }
 
     /// Changes what the tables keep of a thread that is there; the others stay.
