@@ -1,0 +1,41 @@
+-- What a move may begin on, and that its small changes were noted.
+use Rattle.std.specs.Prelude.{ℕ, ◌≡◌, ◌==◌, ◌||◌, ◌&&◌, Bool, nat_le, slice_index, List, []}
+use Rattle.posix_model.specs.State.{none_pending}
+use Rattle.posix_model.specs.Good.{IsGood}
+use Rattle.posix_model.specs.Changes.{Made}
+use Rattle.posix_model.specs.declared.Arguments.{Arguments}
+use Rattle.posix_model.specs.Reports.{nothing_told}
+use Rattle.kernel_state.specs.View.{view, made}
+use Rattle.kernel_state.specs.Changing.{IsListed, owed, AllCan}
+use Rattle.kernel_state.specs.Moves.{owed_by, told_by}
+use Rattle.kernel_state.specs.declared.kernel.Kernel.{Kernel}
+
+-- no move is in progress and nothing is told, the state is good, no fault waits, and the thread is ready
+pub record CanBegin {R : Type 0} (order : R → List ℕ) (k : Kernel R) (t : ℕ) : Type 0 where
+  pub idle : k.rest.items ≡ []
+  pub untold : k.tables.report ≡ nothing_told
+  pub good : IsGood (view order k.tables)
+  pub listed : IsListed (view order k.tables) t
+  pub calm : (view order k.tables).pending ≡ none_pending
+
+-- small changes were noted and nothing else: together they make a move, and each can be made in its turn
+pub record IsNoted {R : Type 0} (order : R → List ℕ) (k q : Kernel R) (g : Made) : Type 0 where
+  pub owed : owed (made order k.tables) q.rest.items ≡ g
+  pub can : AllCan (made order k.tables) q.rest.items
+  pub others : q ≡ record k { rest = q.rest }
+
+-- a move was begun and nothing else: what it owes the machine, with its thread and its main line, is one
+-- change of the definitions, each of its small changes can be made in its turn, and the tables stay
+pub record IsBegun {R : Type 0} (order : R → List ℕ) (k q : Kernel R) (g : Made) : Type 0 where
+  pub owed : told_by q.tid q.head (owed_by order q) ≡ g
+  pub can : AllCan (made order q.tables) q.rest.items
+  pub tables : q.tables ≡ k.tables
+  pub settings : q.settings ≡ k.settings
+
+-- the numbers of the calls that begin here: exit of the process, and the calls of threads
+abbrev pub is_thread_call : ℕ → Bool
+is_thread_call number = (number == 93) || (nat_le 256 number && nat_le number 261)
+
+-- the arguments of a call by their names
+abbrev pub arguments_of : List ℕ → Arguments
+arguments_of args = record { a = slice_index args 0; b = slice_index args 1; d = slice_index args 2; e = slice_index args 3 }

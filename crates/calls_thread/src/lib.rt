@@ -1,0 +1,9 @@
+//! The calls of threads, of exit and of unknown numbers, the special returns and the faults, each as small
+//! changes that are noted when it begins.
+#![tactic(auto)]
+
+mod beginning;
+mod notes;
+mod rows;
+
+pub use beginning::{begin, begin_unknown};

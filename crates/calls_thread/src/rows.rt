@@ -1,0 +1,274 @@
+ghost use Rattle.std.specs.Prelude.{◌≡◌, ◌≢◌, true, Some};
+ghost use Rattle.posix_model.specs.State.{Thread};
+ghost use Rattle.posix_model.specs.Threads.{exists, free_number, new_thread};
+ghost use Rattle.kernel_state.specs.Changing.{begun_thread};
+ghost use Rattle.posix_model.specs.Calls as calls;
+ghost use Rattle.posix_model.specs.Calls.{cannot_start, values};
+ghost use Rattle.posix_model.specs.Changes.{begun};
+ghost use Rattle.kernel_state.specs.View.{view};
+ghost use Rattle.calls_thread.specs.Begun.{CanBegin, IsNoted, is_thread_call};
+
+use crate::notes::{note_one, note_two};
+use kernel_state::{Beginning, Change, Kernel};
+use posix_model::{Arguments, Attributes, Ending, Reply, Wait};
+use ready_queues::Ready;
+use thread_base::{Errno, Tid};
+use thread_table::Row;
+
+/// Answers an error, and changes nothing else.
+pub(crate) fn refuse<R: Ready + Drop>(k: &mut Kernel<R>, t: Tid, error: Errno) -> Reply
+    requires { CanBegin R.order k.old t }
+    ensures noted { IsNoted R.order k.old k.new (calls.refused (view R.order k.old.tables) t error).made }
+    ensures reply { result ≡ (calls.refused (view R.order k.old.tables) t error).reply }
+{
+    note_one(
+        k,
+        t,
+        Change::Reply {
+            thread: t,
+            error: error.code(),
+            value: 0,
+        },
+    );
+    Reply::refusal(error)
+}
+
+/// Tells the caller's number, by POSIX.1 pthread_self.
+pub(crate) fn self_number<R: Ready + Drop>(k: &mut Kernel<R>, t: Tid) -> Reply
+    requires { CanBegin R.order k.old t }
+    ensures noted { IsNoted R.order k.old k.new (calls.self_number (view R.order k.old.tables) t).made }
+    ensures reply { result ≡ (calls.self_number (view R.order k.old.tables) t).reply }
+{
+    note_one(
+        k,
+        t,
+        Change::Reply {
+            thread: t,
+            error: 0,
+            value: t.number(),
+        },
+    );
+    Reply::Values(0, t.number())
+}
+
+/// Puts the caller behind the others, by POSIX.1 sched_yield.
+#[tactic(auto, using(crate::proofs::StayLemmas::there_to_end))]
+pub(crate) fn yield_turn<R: Ready + Drop>(k: &mut Kernel<R>, t: Tid) -> Reply
+    requires { CanBegin R.order k.old t }
+    ensures noted { IsNoted R.order k.old k.new (calls.yield (view R.order k.old.tables) t).made }
+    ensures reply { result ≡ (calls.yield (view R.order k.old.tables) t).reply }
+{
+    note_two(
+        k,
+        t,
+        Change::ToEnd { thread: t },
+        Change::Reply {
+            thread: t,
+            error: 0,
+            value: 0,
+        },
+    );
+    Reply::Values(0, 0)
+}
+
+/// Whether no thread can be made with a routine, a stack or attributes.
+fn cannot_start(c: Arguments) -> bool
+    ensures { result ≡ cannot_start c }
+{
+    c.a % 4 != 0 || c.d % 16 != 0 || !Attributes { word: c.e }.are_valid()
+}
+
+/// What a new thread begins with that a thread makes.
+fn first_of(creator: Row, c: Arguments) -> Beginning
+    ensures { (thread : Thread) → thread.base ≡ creator.base → thread.policy ≡ creator.policy → begun_thread result ≡ new_thread thread c }
+{
+    let attributes = Attributes { word: c.e };
+    Beginning {
+        base: attributes.base(creator.base),
+        policy: attributes.policy(creator.policy),
+        detached: attributes.detached(),
+        routine: c.a,
+        argument: c.b,
+        stack: c.d,
+    }
+}
+
+/// Makes a new thread, by POSIX.1 pthread_create.
+pub(crate) fn create<R: Ready + Drop>(k: &mut Kernel<R>, t: Tid, c: Arguments) -> Reply
+    requires { CanBegin R.order k.old t }
+    ensures noted { IsNoted R.order k.old k.new (calls.create (view R.order k.old.tables) t c).made }
+    ensures reply { result ≡ (calls.create (view R.order k.old.tables) t c).reply }
+{
+    if cannot_start(c) {
+        return refuse(k, t, Errno::EINVAL);
+    }
+    match k.tables().free_number() {
+        None => refuse(k, t, Errno::EAGAIN),
+        Some(u) => start(k, t, u, c),
+    }
+}
+
+/// Starts the exit of the caller, by POSIX.1 pthread_exit.
+pub(crate) fn exit_thread<R: Ready + Drop>(k: &mut Kernel<R>, t: Tid, c: Arguments) -> Reply
+    requires { CanBegin R.order k.old t }
+    ensures noted { IsNoted R.order k.old k.new (calls.exit_thread (view R.order k.old.tables) t c).made }
+    ensures reply { result ≡ (calls.exit_thread (view R.order k.old.tables) t c).reply }
+{
+    note_one(
+        k,
+        t,
+        Change::StartExit {
+            thread: t,
+            value: c.a,
+        },
+    );
+    Reply::Exit
+}
+
+/// Ends the process.
+pub(crate) fn exit<R: Ready + Drop>(k: &mut Kernel<R>, t: Tid, c: Arguments) -> Reply
+    requires { CanBegin R.order k.old t }
+    ensures noted { IsNoted R.order k.old k.new (calls.exit (view R.order k.old.tables) t c).made }
+    ensures reply { result ≡ (calls.exit (view R.order k.old.tables) t c).reply }
+{
+    note_one(
+        k,
+        t,
+        Change::Over {
+            ending: Ending::Exit(c.a % 256),
+        },
+    );
+    Reply::End
+}
+
+/// Makes a new thread of a number that is free.
+#[tactic(auto, using(crate::proofs::StayLemmas::there_append))]
+fn start<R: Ready + Drop>(k: &mut Kernel<R>, t: Tid, u: Tid, c: Arguments) -> Reply
+    requires ready { CanBegin R.order k.old t }
+    requires free { free_number (view R.order k.old.tables) ≡ Some u }
+    ensures noted { IsNoted R.order k.old k.new (calls.created (view R.order k.old.tables) t c (Some u)).made }
+    ensures reply { result ≡ (calls.created (view R.order k.old.tables) t c (Some u)).reply }
+{
+    let creator = k.tables().there(t).row;
+    note_two(
+        k,
+        t,
+        Change::Create {
+            thread: u,
+            beginning: first_of(creator, c),
+        },
+        Change::Reply {
+            thread: t,
+            error: 0,
+            value: u.number(),
+        },
+    );
+    Reply::Values(0, u.number())
+}
+
+/// Waits for the end of a thread, or takes its value, by POSIX.1 pthread_join.
+pub(crate) fn join<R: Ready + Drop>(k: &mut Kernel<R>, t: Tid, c: Arguments) -> Reply
+    requires { CanBegin R.order k.old t }
+    ensures noted { IsNoted R.order k.old k.new (calls.join (view R.order k.old.tables) t c).made }
+    ensures reply { result ≡ (calls.join (view R.order k.old.tables) t c).reply }
+{
+    if c.a == t.number() {
+        return refuse(k, t, Errno::EDEADLK);
+    }
+    let Some(u) = k.tables().thread(c.a) else {
+        return refuse(k, t, Errno::ESRCH);
+    };
+    if k.tables().is_taken(u) {
+        return refuse(k, t, Errno::EINVAL);
+    }
+    join_thread(k, t, u)
+}
+
+/// Joins a thread that may be joined.
+fn join_thread<R: Ready + Drop>(k: &mut Kernel<R>, t: Tid, u: Tid) -> Reply
+    requires ready { CanBegin R.order k.old t }
+    requires there { exists (view R.order k.old.tables) u ≡ true }
+    requires apart { u ≢ t }
+    ensures noted { IsNoted R.order k.old k.new (calls.join_by (view R.order k.old.tables) t u ((view R.order k.old.tables).threads u).standing).made }
+    ensures reply { result ≡ (calls.join_by (view R.order k.old.tables) t u ((view R.order k.old.tables).threads u).standing).reply }
+{
+    match k.tables().there(u).row.ended {
+        Some(value) => {
+            note_two(
+                k,
+                t,
+                Change::Free { thread: u },
+                Change::Reply {
+                    thread: t,
+                    error: 0,
+                    value,
+                },
+            );
+            Reply::Values(0, value)
+        }
+        None => {
+            note_one(
+                k,
+                t,
+                Change::Await {
+                    thread: t,
+                    wait: Wait::Join(u),
+                },
+            );
+            Reply::Block
+        }
+    }
+}
+
+/// Detaches a thread, by POSIX.1 pthread_detach.
+pub(crate) fn detach<R: Ready + Drop>(k: &mut Kernel<R>, t: Tid, c: Arguments) -> Reply
+    requires { CanBegin R.order k.old t }
+    ensures noted { IsNoted R.order k.old k.new (calls.detach (view R.order k.old.tables) t c).made }
+    ensures reply { result ≡ (calls.detach (view R.order k.old.tables) t c).reply }
+{
+    let Some(u) = k.tables().thread(c.a) else {
+        return refuse(k, t, Errno::ESRCH);
+    };
+    if k.tables().is_taken(u) {
+        return refuse(k, t, Errno::EINVAL);
+    }
+    detach_thread(k, t, u)
+}
+
+/// Detaches a thread that may be detached.
+fn detach_thread<R: Ready + Drop>(k: &mut Kernel<R>, t: Tid, u: Tid) -> Reply
+    requires ready { CanBegin R.order k.old t }
+    requires there { exists (view R.order k.old.tables) u ≡ true }
+    ensures noted { IsNoted R.order k.old k.new (values (begun (calls.detached_by (view R.order k.old.tables) u ((view R.order k.old.tables).threads u).standing)) t 0 0).made }
+    ensures reply { result ≡ Reply.Values 0 0 }
+{
+    let answer = Change::Reply {
+        thread: t,
+        error: 0,
+        value: 0,
+    };
+    match k.tables().there(u).row.ended {
+        Some(_) => note_two(k, t, Change::Free { thread: u }, answer),
+        None => note_two(k, t, Change::Detach { thread: u }, answer),
+    }
+    Reply::Values(0, 0)
+}
+
+/// Makes the row of one of the calls of this crate.
+#[tactic(auto, unfolding(posix_model::specs::Calls::table_row))]
+pub(crate) fn row<R: Ready + Drop>(k: &mut Kernel<R>, t: Tid, number: u32, c: Arguments) -> Reply
+    requires ready { CanBegin R.order k.old t }
+    requires here { is_thread_call number ≡ true }
+    ensures noted { IsNoted R.order k.old k.new (calls.table_row (view R.order k.old.tables) t number c).made }
+    ensures reply { result ≡ (calls.table_row (view R.order k.old.tables) t number c).reply }
+{
+    match number {
+        93 => exit(k, t, c),
+        256 => create(k, t, c),
+        257 => exit_thread(k, t, c),
+        258 => join(k, t, c),
+        259 => detach(k, t, c),
+        260 => self_number(k, t),
+        _ => yield_turn(k, t),
+    }
+}
