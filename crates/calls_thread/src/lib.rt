@@ -4,6 +4,8 @@
 
 mod beginning;
 mod notes;
+mod returns;
 mod rows;
 
 pub use beginning::{begin, begin_unknown};
+pub use returns::{begin_fault, begin_return};

@@ -1,0 +1,99 @@
+ghost use Rattle.std.specs.Prelude.{◌≡◌, slice_index};
+ghost use Rattle.posix_model.specs.Changes.{begun};
+ghost use Rattle.posix_model.specs.Deliveries.{faulted};
+ghost use Rattle.posix_model.specs.Instructions.{returned};
+ghost use Rattle.posix_model.specs.Leaving.{end_of_thread, start_exit};
+ghost use Rattle.kernel_state.specs.View.{view};
+ghost use Rattle.calls_thread.specs.Begun.{CanBegin, IsNoted, IsBegun};
+
+use crate::notes::{note_one, note_two};
+use kernel_state::{Change, Kernel};
+use posix_model::Head;
+use ready_queues::Ready;
+use rv_exec::Special;
+use thread_base::{Sig, Tid};
+
+/// The signal of a special return that is not due.
+const SIGSEGV: u32 = 11;
+
+/// Begins a fault of a thread that is ready: its signal pends from now on.
+pub fn begin_fault<R: Ready + Drop>(k: &mut Kernel<R>, t: Tid, s: Sig)
+    requires { CanBegin R.order k.old t }
+    ensures { IsBegun R.order k.old k.new (faulted (view R.order k.old.tables) t s) }
+{
+    note_one(
+        k,
+        t,
+        Change::Pend {
+            thread: t,
+            signal: s,
+        },
+    );
+    k.note_head(t, Head::Fault(s));
+}
+
+/// Notes the end of a thread: its joiner is answered, and then it is gone.
+fn note_end<R: Ready + Drop>(k: &mut Kernel<R>, t: Tid, value: u32)
+    requires { CanBegin R.order k.old t }
+    ensures { IsNoted R.order k.old k.new (end_of_thread (view R.order k.old.tables) t value) }
+{
+    match k.tables().joiner(t) {
+        None => note_one(
+            k,
+            t,
+            Change::End {
+                thread: t,
+                value,
+                joined: false,
+            },
+        ),
+        Some(u) => note_two(
+            k,
+            t,
+            Change::Answer {
+                thread: u,
+                error: 0,
+                value,
+            },
+            Change::End {
+                thread: t,
+                value,
+                joined: true,
+            },
+        ),
+    }
+}
+
+/// Notes the start of a thread's exit with the value in a0.
+fn note_exit<R: Ready + Drop>(k: &mut Kernel<R>, t: Tid)
+    requires { CanBegin R.order k.old t }
+    ensures { IsNoted R.order k.old k.new (begun (start_exit (view R.order k.old.tables) t (slice_index ((view R.order k.old.tables).threads t).registers.x 10))) }
+{
+    let value = k.tables().there(t).regs.x[10];
+    note_one(k, t, Change::StartExit { thread: t, value });
+}
+
+/// Begins a special return of a thread that is ready, or the fault with SIGSEGV where it is not due.
+pub fn begin_return<R: Ready + Drop>(k: &mut Kernel<R>, t: Tid, which: Special)
+    requires { CanBegin R.order k.old t }
+    ensures { IsBegun R.order k.old k.new (returned (view R.order k.old.tables) t which ((view R.order k.old.tables).threads t).phase) }
+{
+    let leaving = k.tables().there(t).life.leaving;
+    match which {
+        Special::Handler => begin_fault(k, t, Sig::of(SIGSEGV)),
+        Special::Cleanup => match leaving {
+            None => begin_fault(k, t, Sig::of(SIGSEGV)),
+            Some(value) => {
+                note_end(k, t, value);
+                k.note_head(t, Head::Ret(Special::Cleanup));
+            }
+        },
+        Special::Start => match leaving {
+            Some(_) => begin_fault(k, t, Sig::of(SIGSEGV)),
+            None => {
+                note_exit(k, t);
+                k.note_head(t, Head::Ret(Special::Start));
+            }
+        },
+    }
+}
