@@ -1,0 +1,7 @@
+pub mod Digits
+pub mod Parts
+pub mod Cuts
+pub mod Events
+pub mod Follows
+pub mod Spelling
+pub mod Again
