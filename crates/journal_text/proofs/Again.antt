@@ -13,7 +13,7 @@ use Rattle.journal_text.specs.declared.refusal.JournalRefusal.{JournalRefusal}
 use Rattle.journal_text.specs.Contents.{Contents, empty, is_input, has_eof, data_len, total_len}
 use Rattle.journal_text.specs.Spelling.{header, event_text, entry_text, entry_line, spell, hex}
 use Rattle.journal_text.specs.Lines.{Line, lines, Parts, parts_of, number, is_digits, is_hex, is_hex_digit, hex_bytes, has_leading_zero, is_sig, is_tick, is_data, is_end, is_form, what_of, data_of, entry_of}
-use Rattle.journal_text.specs.Refusals.{when, ◌orelse◌, bad_parts, bad_line, next_line, is_bad_number, is_bad_signal, is_out_of_order, is_after_eof, is_full, is_in_scope, with_parts, with_line, with_lines, first_bad_line, first_bad, entries_of}
+use Rattle.journal_text.specs.Refusals.{when, ◌orelse◌, parts_refusal, line_refusal, next_line, is_bad_number, is_bad_signal, is_out_of_order, is_after_eof, is_full, is_in_scope, with_parts, with_line, with_lines, first_bad_line, first_bad, entries_of}
 use Rattle.journal_text.specs.Valid.{IsEvent, MayFollow, EachFollows, IsJournal}
 use Rattle.journal_text.proofs.Digits.{IsWrittenAs, decimal_is_written, AreBytes, AreBytes-drop, AreBytes-take, hex_bytes-hex, hex_digits, length-hex, is_hex-hex}
 use Rattle.journal_text.proofs.Parts.{IsGood}
@@ -125,8 +125,8 @@ none_of : (a b c d e f : Bool) (q r s t u v : JournalRefusal) → a ≡ true →
     → (when (not a) q orelse when b r orelse when c s orelse when d t orelse when e u orelse when f v) ≡ None
 none_of a b c d e f q r s t u v ha hb hc hd he hf = rw (ha, hb, hc, hd, he, hf) refl
 
-parts_none : (j : Contents) (p : Parts) → IsGood j p → bad_parts j p ≡ None
-unfolding bad_parts
+parts_none : (j : Contents) (p : Parts) → IsGood j p → parts_refusal j p ≡ None
+unfolding parts_refusal
 parts_none j p good =
     none_of (is_form p) (is_bad_number p) (is_bad_signal p) (is_out_of_order j p) (is_after_eof j p) (is_full j) _ _ _ _ _ _
     good.form good.number good.signal good.order good.input good.few
@@ -164,7 +164,7 @@ again all before (e ∷ es) each small inside few =
     let is = event_again before e.what all may.event small (omega arith) in
     let parts = parts_again e.place.n e.place.k (event_text all e.what) n_fits k_fits in
     let cut = ap lines (append_assoc text (10 ∷ []) rest) ∙ lines_here text rest (one_line e.place.n e.place.k (event_text all e.what) n_fits k_fits is.one_line) in
-    let good = ap (bad_parts j) parts ∙ parts_none j _ (good_again j e (event_text all e.what) all may (omega arith) is) in
+    let good = ap (parts_refusal j) parts ∙ parts_none j _ (good_again j e (event_text all e.what) all may (omega arith) is) in
     let next = ap (with_parts j) parts ∙ next_again before e all (omega arith) may is in
     let count = total_len-append before (e ∷ []) in
     let more = again all (before ++ e ∷ []) es each.1 small (omega (arith, count)) (omega (arith, length-append before (e ∷ []))) in (

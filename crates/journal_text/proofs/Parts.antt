@@ -3,7 +3,7 @@ use Rattle.std.proofs.Common.{◌≡◌, ℕ, ◌+◌, ◌<◌, ◌≤◌, ◌||
 use Rattle.journal_text.specs.declared.refusal.JournalRefusal.{JournalRefusal}
 use Rattle.journal_text.specs.Contents.{Contents}
 use Rattle.journal_text.specs.Lines.{Parts, has_leading_zero, number, is_sig, is_form, is_data, hex_bytes, data_of}
-use Rattle.journal_text.specs.Refusals.{when, ◌orelse◌, bad_parts, next_line, is_bad_number, is_bad_signal, is_out_of_order, is_after_eof, is_full, is_in_scope}
+use Rattle.journal_text.specs.Refusals.{when, ◌orelse◌, parts_refusal, next_line, is_bad_number, is_bad_signal, is_out_of_order, is_after_eof, is_full, is_in_scope}
 
 -- neither of two
 pub or_false : (a b : Bool) → (a || b) ≡ false → (a ≡ false) × (b ≡ false)
@@ -37,8 +37,8 @@ pub record IsGood (j : Contents) (p : Parts) : Type 0 where
   pub input : is_after_eof j p ≡ false
   pub few : is_full j ≡ false
 
-pub good_parts : (j : Contents) (p : Parts) → bad_parts j p ≡ None → IsGood j p
-unfolding bad_parts
+pub good_parts : (j : Contents) (p : Parts) → parts_refusal j p ≡ None → IsGood j p
+unfolding parts_refusal
 good_parts j p h =
     let a = when_none (not (is_form p)) _ _ h in
     let b = when_none (is_bad_number p) _ _ a.1 in

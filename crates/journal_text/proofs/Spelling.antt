@@ -11,7 +11,7 @@ use Rattle.journal_text.specs.declared.refusal.JournalRefusal.{JournalRefusal}
 use Rattle.journal_text.specs.Contents.{Contents, empty, is_input, has_eof, data_len, total_len}
 use Rattle.journal_text.specs.Spelling.{header, event_text, entry_text, entry_line, spell, hex}
 use Rattle.journal_text.specs.Lines.{Line, lines, Parts, parts_of, number, is_digits, is_hex, is_hex_digit, hex_bytes, has_leading_zero, is_sig, is_tick, is_data, is_end, is_form, what_of, data_of, entry_of}
-use Rattle.journal_text.specs.Refusals.{when, ◌orelse◌, bad_parts, bad_line, next_line, is_bad_number, is_bad_signal, is_out_of_order, is_after_eof, is_full, is_in_scope, with_parts, with_line, with_lines, first_bad_line, first_bad, entries_of}
+use Rattle.journal_text.specs.Refusals.{when, ◌orelse◌, parts_refusal, line_refusal, next_line, is_bad_number, is_bad_signal, is_out_of_order, is_after_eof, is_full, is_in_scope, with_parts, with_line, with_lines, first_bad_line, first_bad, entries_of}
 use Rattle.journal_text.specs.Valid.{IsEvent, MayFollow, EachFollows, IsJournal}
 use Rattle.journal_text.proofs.Digits.{decimal-number, hex-hex_bytes, length-hex_bytes, AreBytes, AreBytes-hex_bytes, AreBytes-append}
 use Rattle.journal_text.proofs.Parts.{IsGood, good_parts, AreNumbers, are_numbers, when_none, and_second}
@@ -168,7 +168,7 @@ orelse_none (Some r) b h = cc
 pub along : (j : Contents) (all : List Line) → IsSoFar j → first_bad_line j all ≡ None → IsSoFar (with_lines j all) × (spell (with_lines j all) ≡ spell j ++ flat_map line_text all)
 along j [] so_far good = (so_far, sym (append-nil (spell j)))
 along j (line ∷ all) so_far good =
-    let parts = orelse_none (bad_line j line) _ good in
+    let parts = orelse_none (line_refusal j line) _ good in
     let ended = when_none (not line.ended) _ _ parts.0 in
     let here = step j line.text so_far (good_parts j (parts_of line.text) ended.1) in
     let rest = along (with_line j line) all here.0 parts.1 in

@@ -49,8 +49,8 @@ abbrev pub next_line : Contents → ℕ
 next_line j = length j.entries + 2
 
 -- the refusal of a line of the four forms' parts behind a journal
-unfoldable pub bad_parts : Contents → Parts → Option JournalRefusal
-bad_parts j p =
+unfoldable pub parts_refusal : Contents → Parts → Option JournalRefusal
+parts_refusal j p =
     when (not (is_form p)) (NoLine (next_line j))
     orelse when (is_bad_number p) (Number (next_line j))
     orelse when (is_bad_signal p) (Signal (next_line j))
@@ -59,8 +59,8 @@ bad_parts j p =
     orelse when (is_full j) (TooMany (next_line j))
 
 -- the refusal of a line behind a journal
-abbrev pub bad_line : Contents → Line → Option JournalRefusal
-bad_line j line = when (not line.ended) (NoLine (next_line j)) orelse bad_parts j (parts_of line.text)
+abbrev pub line_refusal : Contents → Line → Option JournalRefusal
+line_refusal j line = when (not line.ended) (NoLine (next_line j)) orelse parts_refusal j (parts_of line.text)
 
 -- a journal with the entry that a line names
 abbrev pub with_parts : Contents → Parts → Contents
@@ -72,7 +72,7 @@ with_line j line = with_parts j (parts_of line.text)
 -- the refusal of the first bad line of these, which stand behind a journal
 abbrev pub first_bad_line : Contents → List Line → Option JournalRefusal
 first_bad_line j [] = None
-first_bad_line j (line ∷ rest) = bad_line j line orelse first_bad_line (with_line j line) rest
+first_bad_line j (line ∷ rest) = line_refusal j line orelse first_bad_line (with_line j line) rest
 
 -- a journal with the entries that some lines name
 abbrev pub with_lines : Contents → List Line → Contents

@@ -1,7 +1,7 @@
 ghost use Rattle.std.specs.Prelude.{◌≡◌, ◌≢◌, ◌<◌, ◌≤◌, ◌+◌, ◌^◌, OnOk, IfOk, IfErr, length, None, Some};
 ghost use Rattle.journal_text.specs.Contents.{empty, is_before_last};
 ghost use Rattle.journal_text.specs.Lines.{lines};
-ghost use Rattle.journal_text.specs.Refusals.{bad_parts, with_parts, first_bad_line, with_lines};
+ghost use Rattle.journal_text.specs.Refusals.{parts_refusal, with_parts, first_bad_line, with_lines};
 ghost use Rattle.journal_text.specs.Valid.{IsJournal};
 
 use crate::entry::Entry;
@@ -65,10 +65,10 @@ impl Draft {
     }
 
     /// The refusal of the next line.
-    #[tactic(auto, unfolding(crate::specs::Refusals::bad_parts))]
+    #[tactic(auto, unfolding(crate::specs::Refusals::parts_refusal))]
     pub fn refusal(&self, written: &Written) -> Option<JournalRefusal>
         requires { length self.now.entries ≤ 16777216 }
-        ensures { result ≡ bad_parts self.now written.now }
+        ensures { result ≡ parts_refusal self.now written.now }
     {
         let line = self.next_line();
         if !written.is_form() {
@@ -94,7 +94,7 @@ impl Draft {
 
     /// Takes the entry of the next line, which has no refusal.
     pub fn push(&mut self, written: &Written) -> Result<(), AllocError>
-        requires good { bad_parts self.old written.now ≡ None }
+        requires good { parts_refusal self.old written.now ≡ None }
         requires room { length self.old.bytes + length written.now.event < 2 ^ 32 }
         ensures grown { OnOk result (self.new ≡ with_parts self.old written.now) }
         ensures few { OnOk result (length self.new.entries ≡ length self.old.entries + 1) }

@@ -16,3 +16,6 @@ pub use laws::{one_journal, read_again, spelled};
 pub use print::print_journal;
 pub use read::read_journal;
 pub use refusal::JournalRefusal;
+
+#[cfg(test)]
+mod tests;

@@ -11,6 +11,12 @@ use crate::refusal::JournalRefusal;
 use crate::written::{Written, cut_line};
 use std::alloc::Global;
 
+/// The first line.
+const HEADER: &[u8] = b"fsu-journal 1\n";
+
+/// The most bytes of a journal's text.
+const MOST: usize = 16_777_216;
+
 /// Reads a line, and gives the text behind it.
 fn read_line<'a>(draft: &mut Draft, text: &'a [u8]) -> Result<&'a [u8], JournalRefusal>
     requires some { 0 < length text.now }
@@ -48,12 +54,6 @@ fn read_lines(alloc: Global, text: &[u8]) -> Result<Draft, JournalRefusal>
     }
     Ok(draft)
 }
-
-/// The first line.
-const HEADER: &[u8] = b"fsu-journal 1\n";
-
-/// The most bytes of a journal's text.
-const MOST: usize = 16_777_216;
 
 /// The lines behind the header.
 #[tactic(auto, unfolding(crate::specs::Refusals::first_bad, crate::specs::Refusals::entries_of), using(std::proofs::lemmas::List::take_rest))]

@@ -11,13 +11,10 @@ use std::marker::Model;
 use thread_base::{Place, Sig};
 
 /// The greatest number of instructions of a place.
-const MAX_N: u64 = 1_000_000_000;
+const MAX_N: u32 = 1_000_000_000;
 
 /// The greatest number of steps of a place.
-const MAX_K: u64 = 1_000_000;
-
-/// The number as which any number is told that is not below it.
-const MANY: u64 = 4_294_967_295;
+const MAX_K: u32 = 1_000_000;
 
 /// An entry as a line has it, `N.K EVENT`: each part as it is written.
 #[derive(Drop)]
@@ -84,19 +81,20 @@ fn has_leading_zero(digits: &[u8]) -> bool
     digits.len() > 1 && digits[0] == b'0'
 }
 
-/// The number that digits write, or MANY where it is greater.
-fn number(digits: &[u8]) -> u64
+/// The number that digits write, or the greatest `u32` where it is greater.
+fn number(digits: &[u8]) -> u32
     ensures { result ≡ min (number digits.now) 4294967295 }
 {
-    let mut n = 0u64;
+    let mut n = 0u32;
     for digit in digits {
-        n = (n * 10 + u64::from(digit.saturating_sub(b'0'))).min(MANY);
+        let value = digit.saturating_sub(b'0');
+        n = n.saturating_mul(10).saturating_add(u32::from(value));
     }
     n
 }
 
 /// Whether the number that digits write is above `most`.
-fn is_above(digits: &[u8], most: u64) -> bool
+fn is_above(digits: &[u8], most: u32) -> bool
     requires { most < 4294967295 }
     ensures { result ≡ nat_lt most (number digits.now) }
 {
@@ -213,11 +211,7 @@ impl<'a> Written<'a> {
     pub fn has_bad_signal(&self) -> bool
         ensures { result ≡ is_bad_signal self.now }
     {
-        if !is_sig(self.event) {
-            return false;
-        }
-        let n = number(&self.event[4..]);
-        !(1 <= n && n <= 31 && (n < 18 || 22 < n))
+        is_sig(self.event) && Sig::new(number(&self.event[4..])).is_none()
     }
 
     /// Whether it brings or ends input.
@@ -234,8 +228,8 @@ impl<'a> Written<'a> {
         ensures { result ≡ place_of self.now }
     {
         Place {
-            n: number(self.n),
-            k: number(self.k) as u32,
+            n: u64::from(number(self.n)),
+            k: number(self.k),
         }
     }
 
@@ -251,7 +245,7 @@ impl<'a> Written<'a> {
         } else if is_end(self.event) {
             What::Eof
         } else if is_sig(self.event) {
-            What::Sig(Sig::of(number(&self.event[4..]) as u32))
+            What::Sig(Sig::of(number(&self.event[4..])))
         } else {
             What::Data {
                 start,
