@@ -1,5 +1,5 @@
 -- Where a text is cut into lines.
-use Rattle.std.proofs.Common.{◌≡◌, ℕ, ◌+◌, ◌<◌, ◌≤◌, Bool, true, false, cond, eqb, not, ltb, ltb-true, ltb-false, Option, Some, None, ◌-◌, subst, length-drop, List, [], ◌∷◌, ◌++◌, length, take, drop, suc, ◌⊎◌, inl, inr, refl, sym, ap, ◌∙◌, arith}
+use Rattle.std.proofs.Common.{◌≡◌, ℕ, ◌+◌, ◌<◌, Bool, true, false, cond, eqb, not, ltb, ltb-true, ltb-false, Option, Some, None, ◌-◌, subst, length-drop, List, [], ◌∷◌, ◌++◌, length, take, drop, suc, ◌⊎◌, inl, inr, refl, sym, ap, ◌∙◌, arith}
 use Rattle.std.proofs.lemmas.Bool.{not-true, and_parts, eq-eqb, eqb-true}
 use Rattle.std.specs.List.{position_or_len, position, before_first, after_first, list_all, flat_map}
 use Rattle.std.proofs.Math.Seq.{take-length}
@@ -11,7 +11,8 @@ abbrev pub is_feed : ℕ → Bool
 is_feed b = eqb b 10
 
 -- the cut of a line feed in front, and of another byte
-cut_more : (p : ℕ → Bool) (b : ℕ) (bytes : List ℕ) → p b ≡ false → (before_first p (b ∷ bytes) ≡ b ∷ before_first p bytes) × (after_first p (b ∷ bytes) ≡ after_first p bytes)
+cut_more : (p : ℕ → Bool) (b : ℕ) (bytes : List ℕ) → p b ≡ false
+    → (before_first p (b ∷ bytes) ≡ b ∷ before_first p bytes) × (after_first p (b ∷ bytes) ≡ after_first p bytes)
 cut_more p b bytes h =
     let at : position_or_len p (b ∷ bytes) ≡ 1 + position_or_len p bytes = rw h refl in
     let more : 1 + position_or_len p bytes ≡ suc (position_or_len p bytes) = omega arith in
@@ -20,7 +21,9 @@ cut_more p b bytes h =
 
 -- up to the first line feed stands a line
 abbrev pub FoundAt : List ℕ → Type 0
-FoundAt text = position_or_len is_feed text < length text → lines text ≡ record { text = before_first is_feed text; ended = true } ∷ lines (after_first is_feed text)
+FoundAt text =
+    position_or_len is_feed text < length text
+    → lines text ≡ record { text = before_first is_feed text; ended = true } ∷ lines (after_first is_feed text)
 
 found_of : (b : ℕ) (bytes : List ℕ) (t : Bool) → is_feed b ≡ t → FoundAt bytes → FoundAt (b ∷ bytes)
 found_of b bytes true e so_far h =
@@ -58,7 +61,8 @@ abbrev PlaceOf : List ℕ → Option ℕ → Type 0
 PlaceOf text None = position_or_len is_feed text ≡ length text
 PlaceOf text (Some end) = (end ≡ position_or_len is_feed text) × (end < length text)
 
-place_by : (text : List ℕ) (t : Bool) → ltb (position_or_len is_feed text) (length text) ≡ t → PlaceOf text (cond t (Some (position_or_len is_feed text)) None)
+place_by : (text : List ℕ) (t : Bool) → ltb (position_or_len is_feed text) (length text) ≡ t
+    → PlaceOf text (cond t (Some (position_or_len is_feed text)) None)
 place_by text true e = (refl, ltb-true _ _ e)
 place_by text false e =
     let high = ltb-false _ _ e in
@@ -72,13 +76,15 @@ place_of text r e = subst (PlaceOf text) (sym e) (place_by text (ltb (position_o
 all_behind : (n : ℕ) (text : List ℕ) → take (length text - n) (drop n text) ≡ drop n text
 all_behind n text = rw (← length-drop n text) (take-length (drop n text))
 
-pub cut_some : (text : List ℕ) (end : ℕ) → Some end ≡ position is_feed text → lines text ≡ record { text = take end text; ended = true } ∷ lines (take (length text - (end + 1)) (drop (end + 1) text))
+pub cut_some : (text : List ℕ) (end : ℕ) → Some end ≡ position is_feed text
+    → lines text ≡ record { text = take end text; ended = true } ∷ lines (take (length text - (end + 1)) (drop (end + 1) text))
 cut_some text end h =
     let place = place_of text (Some end) h in
     let found = lines_found text (omega (arith, place.0, place.1)) in
     rw (all_behind (end + 1) text, place.0) found
 
-pub cut_none : (text : List ℕ) → None ≡ position is_feed text → 0 < length text → lines text ≡ record { text = text; ended = false } ∷ []
+pub cut_none : (text : List ℕ) → None ≡ position is_feed text → 0 < length text
+    → lines text ≡ record { text = text; ended = false } ∷ []
 cut_none text h some = lines_last text (place_of text None h) some
 
 -- a byte that is not this one
@@ -89,7 +95,8 @@ not_it : (c b : ℕ) → differs c b ≡ true → eqb b c ≡ false
 not_it c b h = not-true _ h
 
 -- a text is cut where the mark stands that does not stand before
-pub cut_here : (c : ℕ) (a rest : List ℕ) → list_all (differs c) a ≡ true → (before_first (λ b. eqb b c) (a ++ c ∷ rest) ≡ a) × (after_first (λ b. eqb b c) (a ++ c ∷ rest) ≡ rest)
+pub cut_here : (c : ℕ) (a rest : List ℕ) → list_all (differs c) a ≡ true
+    → (before_first (λ b. eqb b c) (a ++ c ∷ rest) ≡ a) × (after_first (λ b. eqb b c) (a ++ c ∷ rest) ≡ rest)
 cut_here c [] rest h =
     let here = eq-eqb c c refl in
     (rw here refl, rw here refl)
@@ -100,7 +107,8 @@ cut_here c (b ∷ a) rest h =
     (more.0 ∙ ap (λ x. b ∷ x) so_far.0, more.1 ∙ so_far.1)
 
 -- a line stands before the rest of a text
-pub lines_here : (a rest : List ℕ) → list_all (differs 10) a ≡ true → lines (a ++ 10 ∷ rest) ≡ record { text = a; ended = true } ∷ lines rest
+pub lines_here : (a rest : List ℕ) → list_all (differs 10) a ≡ true
+    → lines (a ++ 10 ∷ rest) ≡ record { text = a; ended = true } ∷ lines rest
 lines_here [] rest h = refl
 lines_here (b ∷ a) rest h =
     let parts = and_parts (differs 10 b) _ h in
@@ -115,7 +123,8 @@ in_front_text : (b : ℕ) (all : List Line) → flat_map line_text (in_front b a
 in_front_text b [] = refl
 in_front_text b (line ∷ all) = refl
 
-joined_of : (b : ℕ) (bytes : List ℕ) (t : Bool) → eqb b 10 ≡ t → flat_map line_text (lines bytes) ≡ bytes → flat_map line_text (cond t (record { text = []; ended = true } ∷ lines bytes) (in_front b (lines bytes))) ≡ b ∷ bytes
+joined_of : (b : ℕ) (bytes : List ℕ) (t : Bool) → eqb b 10 ≡ t → flat_map line_text (lines bytes) ≡ bytes
+    → flat_map line_text (cond t (record { text = []; ended = true } ∷ lines bytes) (in_front b (lines bytes))) ≡ b ∷ bytes
 joined_of b bytes true e h = rw (eqb-true b 10 e) (ap (λ x. 10 ∷ x) h)
 joined_of b bytes false e h = in_front_text b (lines bytes) ∙ ap (λ x. b ∷ x) h
 
@@ -125,11 +134,16 @@ flat_map-lines [] = refl
 flat_map-lines (b ∷ bytes) = joined_of b bytes (eqb b 10) refl (flat_map-lines bytes)
 
 -- a cut text is what stands before the mark, the mark, and what stands behind; or nothing stands behind
-pub cut_or_none : (c : ℕ) (text : List ℕ) → (text ≡ before_first (λ b. eqb b c) text ++ c ∷ after_first (λ b. eqb b c) text) ⊎ (after_first (λ b. eqb b c) text ≡ [])
-cut_or_none c [] = inr refl
-cut_or_none c (b ∷ text) = cut_of c b text (eqb b c) refl (cut_or_none c text)
+abbrev pub IsCut : ℕ → List ℕ → Type 0
+IsCut c text =
+    (text ≡ before_first (λ b. eqb b c) text ++ c ∷ after_first (λ b. eqb b c) text)
+    ⊎ (after_first (λ b. eqb b c) text ≡ [])
+
+pub is_cut : (c : ℕ) (text : List ℕ) → IsCut c text
+is_cut c [] = inr refl
+is_cut c (b ∷ text) = cut_of c b text (eqb b c) refl (is_cut c text)
   where
-    cut_of : (c b : ℕ) (text : List ℕ) (t : Bool) → eqb b c ≡ t → ((text ≡ before_first (λ b. eqb b c) text ++ c ∷ after_first (λ b. eqb b c) text) ⊎ (after_first (λ b. eqb b c) text ≡ [])) → ((b ∷ text ≡ before_first (λ b. eqb b c) (b ∷ text) ++ c ∷ after_first (λ b. eqb b c) (b ∷ text)) ⊎ (after_first (λ b. eqb b c) (b ∷ text) ≡ []))
+    cut_of : (c b : ℕ) (text : List ℕ) (t : Bool) → eqb b c ≡ t → IsCut c text → IsCut c (b ∷ text)
     cut_of c b text true e so_far = inl (rw e (ap (λ x. x ∷ text) (eqb-true b c e)))
     cut_of c b text false e (inl h) =
         let more = cut_more (λ b. eqb b c) b text e in

@@ -1,5 +1,5 @@
 -- Digits and what they write.
-use Rattle.std.proofs.Common.{◌≡◌, ℕ, zero, suc, ◌+◌, ◌-◌, ◌*◌, ◌/◌, ◌%◌, ◌<◌, ◌≤◌, ◌^◌, ◌⊎◌, inl, inr, Bool, true, false, cond, ◌&&◌, ◌||◌, eqb, ltb, leb, List, [], ◌∷◌, ◌++◌, length, get_or, take, drop, min, fold, refl, sym, ap, ◌∙◌, arith, rules, decimal, lit<}
+use Rattle.std.proofs.Common.{◌≡◌, ℕ, zero, suc, ◌+◌, ◌-◌, ◌*◌, ◌/◌, ◌%◌, ◌<◌, ◌≤◌, ◌^◌, ◌⊎◌, inl, inr, Bool, true, false, cond, ◌&&◌, eqb, ltb, leb, List, [], ◌∷◌, ◌++◌, length, get_or, take, drop, min, fold, refl, arith, rules, decimal, lit<}
 use Rattle.std.proofs.lemmas.Bool.{and_parts, and_cases, and_from, and_left, and_right, or_cases, or_left, or_right, ltb-true, ltb-false, leb-true, lt-ltb, le-ltb, le-leb, ne_eqb, eq-eqb, eqb-false, cases_eq}
 use Rattle.std.proofs.lemmas.List.Sums.{fold_more}
 use Rattle.std.proofs.lemmas.Str.Parse.{IsNumeralModel, numerals_by_fold}
@@ -10,7 +10,8 @@ use Rattle.journal_text.specs.Spelling.{hex, hex_digit}
 use Rattle.journal_text.specs.Lines.{number, is_digits, has_leading_zero, is_hex_digit, is_hex, hex_value, hex_bytes}
 
 -- one digit more, told as at most m
-pub number_more : (xs : List ℕ) (i n m : ℕ) → i < length xs → 0 < m → n ≡ min (number (take i xs)) m → min (n * 10 + (get_or xs i 0 - 48)) m ≡ min (number (take (i + 1) xs)) m
+pub number_more : (xs : List ℕ) (i n m : ℕ) → i < length xs → 0 < m → n ≡ min (number (take i xs)) m
+    → min (n * 10 + (get_or xs i 0 - 48)) m ≡ min (number (take (i + 1) xs)) m
 unfolding number
 number_more xs i n m inside some e =
     let more = fold_more (λ (n : ℕ) (d : ℕ). n * 10 + (d - 48)) 0 xs i 0 inside in
@@ -32,13 +33,16 @@ hex_bytes_short (d ∷ []) h = refl
 hex_bytes_short (d ∷ e ∷ ds) h = absurd (omega arith)
 
 -- a number is as it is written where it has no leading zero
-pub decimal-number : (ds : List ℕ) → is_digits ds ≡ true → has_leading_zero ds ≡ false → number ds < 2 ^ 64 → decimal (number ds) ≡ ds
+pub decimal-number : (ds : List ℕ) → is_digits ds ≡ true → has_leading_zero ds ≡ false → number ds < 2 ^ 64
+    → decimal (number ds) ≡ ds
 decimal-number ds digits plain small =
     let parts = and_parts (ltb 0 (length ds)) _ digits in
     let some = ltb-true _ _ parts.0 in
     decimal-digits_value own ds parts.1 some (one_digit ds some (and_cases (ltb 1 (length ds)) _ plain)) small
   where
-    one_digit : (ds : List ℕ) → 0 < length ds → ((ltb 1 (length ds) ≡ false) ⊎ (eqb (get_or ds 0 0) 48 ≡ false)) → get_or ds 0 0 ≡ 48 → length ds ≡ 1
+    one_digit : (ds : List ℕ) → 0 < length ds
+        → ((ltb 1 (length ds) ≡ false) ⊎ (eqb (get_or ds 0 0) 48 ≡ false)) → get_or ds 0 0 ≡ 48
+        → length ds ≡ 1
     one_digit ds some (inl few) nought = let most = ltb-false 1 (length ds) few in omega arith
     one_digit ds some (inr other) nought = absurd (eqb-false _ _ other nought)
 
@@ -61,7 +65,8 @@ decimal_is_written n small =
     }
   where
     plain_of : (n : ℕ) → n < 2 ^ 64 → ((n ≡ 0) ⊎ (n ≡ 0 → ⊥)) → has_leading_zero (decimal n) ≡ false
-    plain_of n small (inl nought) = and_left _ _ (le-ltb 1 (length (decimal n)) (let few = length-decimal-le 1 n (lit< tt) (omega arith) small in few))
+    plain_of n small (inl nought) =
+        and_left _ _ (le-ltb 1 (length (decimal n)) (length-decimal-le 1 n (lit< tt) (omega arith) small))
     plain_of n small (inr some) =
         let first = first_decimal n (omega arith) small in
         and_right _ _ (ne_eqb (get_or (decimal n) 0 0) 48 (λ e. omega arith))
@@ -70,7 +75,8 @@ decimal_is_written n small =
 hex_digit_is : (n : ℕ) → n < 16 → (is_hex_digit (hex_digit n) ≡ true) × (hex_value (hex_digit n) ≡ n)
 hex_digit_is n small = hex_of n small (ltb n 10) refl
   where
-    hex_of : (n : ℕ) → n < 16 → (t : Bool) → ltb n 10 ≡ t → (is_hex_digit (cond t (48 + n) (87 + n)) ≡ true) × (hex_value (cond t (48 + n) (87 + n)) ≡ n)
+    hex_of : (n : ℕ) → n < 16 → (t : Bool) → ltb n 10 ≡ t
+        → (is_hex_digit (cond t (48 + n) (87 + n)) ≡ true) × (hex_value (cond t (48 + n) (87 + n)) ≡ n)
     hex_of n small true e =
         let few = ltb-true n 10 e in (
           or_left _ _ (and_from _ _ (le-leb 48 (48 + n) (omega arith)) (le-leb (48 + n) 57 (omega arith))),
@@ -85,7 +91,8 @@ hex_digit_is n small = hex_of n small (ltb n 10) refl
 hex_value_is : (d : ℕ) → is_hex_digit d ≡ true → (hex_digit (hex_value d) ≡ d) × (hex_value d < 16)
 hex_value_is d h = value_of d (or_cases _ _ h)
   where
-    value_of : (d : ℕ) → (((leb 48 d && leb d 57) ≡ true) ⊎ ((leb 97 d && leb d 102) ≡ true)) → (hex_digit (hex_value d) ≡ d) × (hex_value d < 16)
+    value_of : (d : ℕ) → (((leb 48 d && leb d 57) ≡ true) ⊎ ((leb 97 d && leb d 102) ≡ true))
+        → (hex_digit (hex_value d) ≡ d) × (hex_value d < 16)
     value_of d (inl h) =
         let parts = and_parts (leb 48 d) _ h in
         let low = leb-true _ _ parts.0 in

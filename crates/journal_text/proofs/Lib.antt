@@ -3,5 +3,5 @@ pub mod Parts
 pub mod Cuts
 pub mod Events
 pub mod Follows
-pub mod Spelling
-pub mod Again
+pub mod SpelledLaw
+pub mod ReadAgainLaw

@@ -1,9 +1,9 @@
 -- What a line without a refusal is.
-use Rattle.std.proofs.Common.{◌≡◌, ℕ, ◌+◌, ◌<◌, ◌≤◌, ◌||◌, ◌&&◌, not, Bool, true, false, List, length, drop, Option, Some, None, refl, sym, arith, ltb, leb, ltb-false, ◌*◌, [], ◌∷◌, cond, length-drop}
+use Rattle.std.proofs.Common.{◌≡◌, ◌≤◌, ◌||◌, ◌&&◌, not, Bool, true, false, drop, Option, None, refl, ltb, ltb-false}
 use Rattle.journal_text.specs.declared.refusal.JournalRefusal.{JournalRefusal}
 use Rattle.journal_text.specs.Contents.{Contents}
-use Rattle.journal_text.specs.Lines.{Parts, has_leading_zero, number, is_sig, is_form, is_data, hex_bytes, data_of}
-use Rattle.journal_text.specs.Refusals.{when, ◌orelse◌, parts_refusal, next_line, is_bad_number, is_bad_signal, is_out_of_order, is_after_eof, is_full, is_in_scope}
+use Rattle.journal_text.specs.Lines.{Parts, has_leading_zero, number, is_sig, is_form}
+use Rattle.journal_text.specs.Refusals.{when, ◌orelse◌, parts_refusal, is_bad_number, is_bad_signal, is_out_of_order, is_after_eof, is_full}
 
 -- neither of two
 pub or_false : (a b : Bool) → (a || b) ≡ false → (a ≡ false) × (b ≡ false)
@@ -16,7 +16,8 @@ and_true true b h = (refl, h)
 and_true false b h = cc
 
 -- no condition holds, and nothing is behind it
-pub when_none : (b : Bool) (r : JournalRefusal) (more : Option JournalRefusal) → (when b r orelse more) ≡ None → (b ≡ false) × (more ≡ None)
+pub when_none : (b : Bool) (r : JournalRefusal) (more : Option JournalRefusal) → (when b r orelse more) ≡ None
+    → (b ≡ false) × (more ≡ None)
 when_none true r more h = cc
 when_none false r more h = (refl, h)
 

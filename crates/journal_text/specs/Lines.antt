@@ -1,12 +1,11 @@
 -- The lines of a text, and what is written in one.
-use Rattle.std.specs.Prelude.{ℕ, ◌+◌, ◌-◌, ◌*◌, ◌/◌, ◌%◌, ◌==◌, ◌&&◌, ◌||◌, not, Bool, true, false, List, [], ◌∷◌, length, codes, drop, nat_eq, nat_lt, nat_le, slice_index, fold, if◌then◌else◌}
+use Rattle.std.specs.Prelude.{ℕ, ◌+◌, ◌-◌, ◌*◌, ◌/◌, ◌%◌, ◌==◌, ◌&&◌, ◌||◌, Bool, true, false, List, [], ◌∷◌, length, codes, drop, nat_eq, nat_lt, nat_le, slice_index, fold, if◌then◌else◌}
 use Rattle.std.specs.List.{starts_with, list_all, before_first, after_first}
 use Rattle.std.specs.Char.{is_ascii_digit}
 use Rattle.thread_base.specs.declared.Place.{Place}
 use Rattle.journal_text.specs.declared.entry.What.{What}
 use Rattle.journal_text.specs.declared.entry.What.TheVariants.{Sig, Tick, Data, Eof}
 use Rattle.journal_text.specs.declared.entry.Entry.{Entry}
-use Rattle.journal_text.specs.Contents.{Contents}
 
 -- a line without its line feed, and whether it has one (POSIX.1: a line ends with a line feed)
 pub record Line : Type 0 where

@@ -23,7 +23,7 @@ impl What {
     ghost use Rattle.journal_text.specs.Contents.{is_eof};
 
     /// Whether it ends the input.
-    pub fn is_eof(self) -> bool
+    pub(crate) fn is_eof(self) -> bool
         ensures { result ≡ is_eof self }
     {
         match self {

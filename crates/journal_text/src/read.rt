@@ -24,7 +24,8 @@ fn read_line<'a>(draft: &mut Draft, text: &'a [u8]) -> Result<&'a [u8], JournalR
     ensures bad { IfOk result (λ rest. first_bad_line draft.old (lines text.now) ≡ first_bad_line draft.new (lines rest.now)) }
     ensures entries { IfOk result (λ rest. with_lines draft.old (lines text.now) ≡ with_lines draft.new (lines rest.now)) }
     ensures shorter { IfOk result (λ rest. length rest.now < length text.now) }
-    ensures room { IfOk result (λ rest. length draft.new.entries + length draft.new.bytes + length rest.now ≤ length draft.old.entries + length draft.old.bytes + length text.now) }
+    ensures room { IfOk result (λ rest. length draft.new.entries + length draft.new.bytes + length rest.now
+        ≤ length draft.old.entries + length draft.old.bytes + length text.now) }
     ensures refused { IfErr result (λ r. r ≢ JournalRefusal.NoMemory → first_bad_line draft.old (lines text.now) ≡ Some r) }
 {
     let Some((line, rest)) = cut_line(text) else {

@@ -1,4 +1,4 @@
-use Rattle.journal_text.proofs.Again.{one_journal}
+use Rattle.journal_text.proofs.ReadAgainLaw.{one_journal}
 use Rattle.journal_text.proofs.laws.one_journal.Goals as goal
 
 pub returns : goal.returns

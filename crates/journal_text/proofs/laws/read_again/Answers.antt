@@ -1,4 +1,4 @@
-use Rattle.journal_text.proofs.Again.{read_again}
+use Rattle.journal_text.proofs.ReadAgainLaw.{read_again}
 use Rattle.journal_text.proofs.laws.read_again.Goals as goal
 
 pub returns : goal.returns

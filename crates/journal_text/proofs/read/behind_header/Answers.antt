@@ -3,7 +3,7 @@ use Rattle.std.proofs.lemmas.List.{take_rest}
 use Rattle.journal_text.specs.Contents.{empty}
 use Rattle.journal_text.specs.Lines.{lines}
 use Rattle.journal_text.specs.Refusals.{first_bad_line}
-use Rattle.journal_text.proofs.Spelling.{first_bad-header}
+use Rattle.journal_text.proofs.SpelledLaw.{first_bad-header}
 use Rattle.journal_text.proofs.read.behind_header.Goals as goal
 
 pub returns-clause-bad : goal.returns-clause-bad

@@ -1,9 +1,8 @@
 use Rattle.std.proofs.Common.{◌≡◌, ◌∙◌, sym, subst, ap}
-use Rattle.journal_text.specs.Contents.{Contents}
 use Rattle.journal_text.specs.Spelling.{spell}
 use Rattle.journal_text.specs.Refusals.{entries_of}
 use Rattle.journal_text.specs.Valid.{IsJournal}
-use Rattle.journal_text.proofs.Spelling.{spelled}
+use Rattle.journal_text.proofs.SpelledLaw.{spelled}
 use Rattle.journal_text.proofs.read.read_journal.Goals as goal
 
 pub finish-requires : goal.finish-requires

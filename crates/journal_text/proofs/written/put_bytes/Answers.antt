@@ -1,4 +1,4 @@
-use Rattle.std.proofs.Common.{◌++◌, drop, arith, length-drop, append-nil, sym, ◌∙◌}
+use Rattle.std.proofs.Common.{drop, arith, length-drop, append-nil, sym, ◌∙◌}
 use Rattle.journal_text.proofs.Digits.{hex_bytes_short}
 use Rattle.journal_text.proofs.written.put_bytes.Goals as goal
 

@@ -1,28 +1,29 @@
 -- What is spelled is read again.
-use Rattle.std.proofs.Common.{◌≡◌, ℕ, zero, suc, ◌+◌, ◌-◌, ◌*◌, ◌/◌, ◌%◌, ◌<◌, ◌≤◌, ◌^◌, ◌⊎◌, inl, inr, Bool, true, false, cond, not, ◌&&◌, ◌||◌, eqb, ltb, leb, List, [], ◌∷◌, ◌++◌, length, take, drop, min, refl, sym, ap, ◌∙◌, subst, arith, rules, decimal, lit<, lit≤, codes, nat_eq, append_assoc, append-nil, length-append, length-drop, Option, None, Some}
-use Rattle.std.proofs.lemmas.Bool.{and_parts, and_from, or_from, or_left, or_right, and_cases, or_cases, eqb-true, leb-true, ltb-false, leb-false, not-false, not-true, not_from_true, not_from_false, le-ltb, lt-leb, ne_eqb, cases_Bool, and_left, and_right}
-use Rattle.std.proofs.lemmas.List.{length-take-le, take-append-drop}
+use Rattle.std.proofs.Common.{◌≡◌, ℕ, ◌+◌, ◌/◌, ◌<◌, ◌≤◌, ◌^◌, ◌⊎◌, inl, inr, Bool, true, false, not, ◌&&◌, ◌||◌, leb, List, [], ◌∷◌, ◌++◌, length, take, drop, refl, sym, ap, ◌∙◌, arith, decimal, lit<, append_assoc, append-nil, length-append, length-drop, None}
+use Rattle.std.proofs.lemmas.Bool.{and_parts, and_from, or_from, or_left, or_cases, leb-true, not_from_true, not_from_false, le-ltb, lt-leb, ne_eqb, cases_Bool, and_left, and_right}
+use Rattle.std.proofs.lemmas.List.{length-take-le}
 use Rattle.std.proofs.lemmas.List.Folds.{list_all-append}
 use Rattle.std.proofs.Math.Seq.{take-length, take-add}
 use Rattle.std.specs.Char.{is_ascii_digit}
-use Rattle.std.specs.List.{starts_with, list_all, flat_map}
+use Rattle.std.specs.List.{list_all, flat_map}
 use Rattle.journal_text.specs.declared.entry.What.{What}
 use Rattle.journal_text.specs.declared.entry.What.TheVariants.{Sig, Tick, Data, Eof}
 use Rattle.journal_text.specs.declared.entry.Entry.{Entry}
 use Rattle.journal_text.specs.declared.refusal.JournalRefusal.{JournalRefusal}
-use Rattle.journal_text.specs.Contents.{Contents, empty, is_input, has_eof, data_len, total_len}
-use Rattle.journal_text.specs.Spelling.{header, event_text, entry_text, entry_line, spell, hex}
-use Rattle.journal_text.specs.Lines.{Line, lines, Parts, parts_of, number, is_digits, is_hex, is_hex_digit, hex_bytes, has_leading_zero, is_sig, is_tick, is_data, is_end, is_form, what_of, data_of, entry_of}
-use Rattle.journal_text.specs.Refusals.{when, ◌orelse◌, parts_refusal, line_refusal, next_line, is_bad_number, is_bad_signal, is_out_of_order, is_after_eof, is_full, is_in_scope, with_parts, with_line, with_lines, first_bad_line, first_bad, entries_of}
+use Rattle.journal_text.specs.Contents.{Contents, is_input, has_eof, data_len, total_len}
+use Rattle.journal_text.specs.Spelling.{event_text, entry_text, entry_line, spell, hex}
+use Rattle.journal_text.specs.Lines.{Line, lines, Parts, parts_of, number, is_hex_digit, has_leading_zero, is_sig, is_tick, is_data, is_end, is_form, what_of, data_of}
+use Rattle.journal_text.specs.Refusals.{when, ◌orelse◌, parts_refusal, is_bad_number, is_bad_signal, is_out_of_order, is_after_eof, is_full, is_in_scope, with_parts, with_line, with_lines, first_bad_line, first_bad, entries_of}
 use Rattle.journal_text.specs.Valid.{IsEvent, MayFollow, EachFollows, IsJournal}
-use Rattle.journal_text.proofs.Digits.{IsWrittenAs, decimal_is_written, AreBytes, AreBytes-drop, AreBytes-take, hex_bytes-hex, hex_digits, length-hex, is_hex-hex}
+use Rattle.journal_text.proofs.Digits.{decimal_is_written, AreBytes, AreBytes-drop, AreBytes-take, hex_bytes-hex, hex_digits, length-hex, is_hex-hex}
 use Rattle.journal_text.proofs.Parts.{IsGood}
 use Rattle.journal_text.proofs.Cuts.{differs, cut_here, lines_here}
 use Rattle.journal_text.proofs.Events.{what_of-sig, what_of-data}
 use Rattle.journal_text.proofs.Follows.{total_len-append}
 
 -- what one test passes, a weaker one passes
-pub list_all-weaker : (p q : ℕ → Bool) → ((b : ℕ) → p b ≡ true → q b ≡ true) → (xs : List ℕ) → list_all p xs ≡ true → list_all q xs ≡ true
+pub list_all-weaker : (p q : ℕ → Bool) → ((b : ℕ) → p b ≡ true → q b ≡ true) → (xs : List ℕ)
+    → list_all p xs ≡ true → list_all q xs ≡ true
 list_all-weaker p q h [] all = refl
 list_all-weaker p q h (x ∷ xs) all =
     let parts = and_parts (p x) _ all in
@@ -55,7 +56,8 @@ pub record IsEventText (start : ℕ) (w : What) (event all : List ℕ) : Type 0 
   pub bytes : data_of event ≡ take (data_len w) (drop start all)
   pub one_line : list_all (differs 10) event ≡ true
 
-event_again : (before : List Entry) (w : What) (all : List ℕ) → IsEvent before w → AreBytes all → total_len before + data_len w ≤ length all → IsEventText (total_len before) w (event_text all w) all
+event_again : (before : List Entry) (w : What) (all : List ℕ) → IsEvent before w → AreBytes all
+    → total_len before + data_len w ≤ length all → IsEventText (total_len before) w (event_text all w) all
 unfolding what_of data_of
 event_again before (Sig s) all is small inside =
     let most = leb-true _ _ (and_parts (leb s 31) _ (and_parts (leb 1 s) _ is).1).0 in
@@ -92,36 +94,44 @@ event_again before (Data start len) all is small inside =
 event_again before Eof all is small inside = record { form = refl; plain = refl; signal = refl; what = refl; input = refl; bytes = refl; one_line = refl }
 
 -- a line is cut into the parts that it was made of
-parts_again : (n k : ℕ) (event : List ℕ) → n < 2 ^ 64 → k < 2 ^ 64 → parts_of (decimal n ++ 46 ∷ decimal k ++ 32 ∷ event) ≡ record { n = decimal n; k = decimal k; event = event }
+parts_again : (n k : ℕ) (event : List ℕ) → n < 2 ^ 64 → k < 2 ^ 64
+    → parts_of (decimal n ++ 46 ∷ decimal k ++ 32 ∷ event) ≡ record { n = decimal n; k = decimal k; event = event }
 parts_again n k event n_fits k_fits =
     let first = cut_here 46 (decimal n) (decimal k ++ 32 ∷ event) (no_mark 46 n (lit< tt) n_fits) in
     let second = cut_here 32 (decimal k) event (no_mark 32 k (lit< tt) k_fits) in
     ap parts_of (append_assoc (decimal n) (46 ∷ decimal k) (32 ∷ event)) ∙ rw (first.0, first.1, second.0, second.1) refl
 
-one_line : (n k : ℕ) (event : List ℕ) → n < 2 ^ 64 → k < 2 ^ 64 → list_all (differs 10) event ≡ true → list_all (differs 10) (decimal n ++ 46 ∷ decimal k ++ 32 ∷ event) ≡ true
+one_line : (n k : ℕ) (event : List ℕ) → n < 2 ^ 64 → k < 2 ^ 64 → list_all (differs 10) event ≡ true
+    → list_all (differs 10) (decimal n ++ 46 ∷ decimal k ++ 32 ∷ event) ≡ true
 one_line n k event n_fits k_fits h =
     rw (list_all-append (differs 10) (decimal n ++ 46 ∷ decimal k) (32 ∷ event), list_all-append (differs 10) (decimal n) (46 ∷ decimal k))
     (and_from _ _ (and_from _ _ (no_mark 10 n (lit< tt) n_fits) (no_mark 10 k (lit< tt) k_fits)) h)
 
 -- an entry may follow, so its line has no refusal
-good_again : (j : Contents) (e : Entry) (event all : List ℕ) → MayFollow j.entries e → length j.entries < 1000000 → IsEventText (total_len j.entries) e.what event all → IsGood j (record { n = decimal e.place.n; k = decimal e.place.k; event = event })
+good_again : (j : Contents) (e : Entry) (event all : List ℕ) → MayFollow j.entries e
+    → length j.entries < 1000000 → IsEventText (total_len j.entries) e.what event all
+    → IsGood j (record { n = decimal e.place.n; k = decimal e.place.k; event = event })
 good_again j e event all may few is =
     let n = decimal_is_written e.place.n (omega (arith, may.n)) in
     let k = decimal_is_written e.place.k (omega (arith, may.k)) in
+    let n_low = le-ltb 1000000000 (number (decimal e.place.n)) (rw n.value may.n) in
+    let k_low = le-ltb 1000000 (number (decimal e.place.k)) (rw k.value may.k) in
     record {
       form = and_from _ _ n.digits (and_from _ _ k.digits is.form);
-      number = or_from _ _ n.plain (or_from _ _ k.plain (or_from _ _ is.plain (or_from _ _ (le-ltb 1000000000 (number (decimal e.place.n)) (rw n.value may.n)) (le-ltb 1000000 (number (decimal e.place.k)) (rw k.value may.k)))));
+      number = or_from _ _ n.plain (or_from _ _ k.plain (or_from _ _ is.plain (or_from _ _ n_low k_low)));
       signal = is.signal;
       order = rw (n.value, k.value) may.order;
       input = no_input (cases_Bool (is_input e.what));
       few = lt-leb 1000000 (length j.entries) few;
     }
   where
-    no_input : ((is_input e.what ≡ true) ⊎ (is_input e.what ≡ false)) → (is_input (what_of 0 event) && has_eof j.entries) ≡ false
+    no_input : ((is_input e.what ≡ true) ⊎ (is_input e.what ≡ false))
+        → (is_input (what_of 0 event) && has_eof j.entries) ≡ false
     no_input (inl h) = and_right _ _ (may.input h)
     no_input (inr h) = and_left _ _ (is.input ∙ h)
 
-none_of : (a b c d e f : Bool) (q r s t u v : JournalRefusal) → a ≡ true → b ≡ false → c ≡ false → d ≡ false → e ≡ false → f ≡ false
+none_of : (a b c d e f : Bool) (q r s t u v : JournalRefusal) → a ≡ true → b ≡ false → c ≡ false → d ≡ false
+    → e ≡ false → f ≡ false
     → (when (not a) q orelse when b r orelse when c s orelse when d t orelse when e u orelse when f v) ≡ None
 none_of a b c d e f q r s t u v ha hb hc hd he hf = rw (ha, hb, hc, hd, he, hf) refl
 
@@ -136,8 +146,11 @@ so_far : List Entry → List ℕ → Contents
 so_far entries all = record { entries = entries; bytes = take (total_len entries) all }
 
 -- an entry more
-next_again : (before : List Entry) (e : Entry) (all : List ℕ) → total_len before + data_len e.what ≤ length all → MayFollow before e → IsEventText (total_len before) e.what (event_text all e.what) all
-    → with_parts (so_far before all) (record { n = decimal e.place.n; k = decimal e.place.k; event = event_text all e.what }) ≡ so_far (before ++ e ∷ []) all
+next_again : (before : List Entry) (e : Entry) (all : List ℕ)
+    → total_len before + data_len e.what ≤ length all → MayFollow before e
+    → IsEventText (total_len before) e.what (event_text all e.what) all
+    → with_parts (so_far before all) (record { n = decimal e.place.n; k = decimal e.place.k; event = event_text all e.what })
+    ≡ so_far (before ++ e ∷ []) all
 unfolding so_far
 next_again before e all inside may is =
     let n = decimal_is_written e.place.n (omega (arith, may.n)) in
@@ -148,7 +161,8 @@ next_again before e all inside may is =
     rw (start, n.value, k.value, is.what, is.bytes, total, take-add (total_len before) (data_len e.what) all) refl
 
 -- the lines of entries that may follow have no refusal, and name these entries
-again : (all : List ℕ) (before after : List Entry) → EachFollows before after → AreBytes all → total_len before + total_len after ≤ length all → length before + length after ≤ 1000000
+again : (all : List ℕ) (before after : List Entry) → EachFollows before after → AreBytes all
+    → total_len before + total_len after ≤ length all → length before + length after ≤ 1000000
     → (first_bad_line (so_far before all) (lines (flat_map (entry_line all) after)) ≡ None)
     × (with_lines (so_far before all) (lines (flat_map (entry_line all) after)) ≡ so_far (before ++ after) all)
 unfolding so_far
@@ -163,12 +177,15 @@ again all before (e ∷ es) each small inside few =
     let k_fits : e.place.k < 2 ^ 64 = omega (arith, may.k) in
     let is = event_again before e.what all may.event small (omega arith) in
     let parts = parts_again e.place.n e.place.k (event_text all e.what) n_fits k_fits in
-    let cut = ap lines (append_assoc text (10 ∷ []) rest) ∙ lines_here text rest (one_line e.place.n e.place.k (event_text all e.what) n_fits k_fits is.one_line) in
+    let alone = one_line e.place.n e.place.k (event_text all e.what) n_fits k_fits is.one_line in
+    let cut = ap lines (append_assoc text (10 ∷ []) rest) ∙ lines_here text rest alone in
     let good = ap (parts_refusal j) parts ∙ parts_none j _ (good_again j e (event_text all e.what) all may (omega arith) is) in
     let next = ap (with_parts j) parts ∙ next_again before e all (omega arith) may is in
     let count = total_len-append before (e ∷ []) in
     let more = again all (before ++ e ∷ []) es each.1 small (omega (arith, count)) (omega (arith, length-append before (e ∷ []))) in (
-      ap (first_bad_line j) cut ∙ ap (λ x. x orelse first_bad_line (with_line j line) (lines rest)) good ∙ ap (λ k. first_bad_line k (lines rest)) next ∙ more.0,
+      ap (first_bad_line j) cut
+          ∙ ap (λ x. x orelse first_bad_line (with_line j line) (lines rest)) good
+          ∙ ap (λ k. first_bad_line k (lines rest)) next ∙ more.0,
       ap (with_lines j) cut ∙ ap (λ k. with_lines k (lines rest)) next ∙ more.1 ∙ ap (λ b. so_far b all) (append_assoc before (e ∷ []) es),
     )
 

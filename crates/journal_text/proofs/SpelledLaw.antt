@@ -1,46 +1,56 @@
 -- What is read of a line is spelled so.
-use Rattle.std.proofs.Common.{◌≡◌, ℕ, ◌+◌, ◌-◌, ◌*◌, ◌/◌, ◌%◌, ◌<◌, ◌≤◌, ◌^◌, ◌⊎◌, inl, inr, Bool, true, false, cond, not, ◌&&◌, ◌||◌, eqb, ltb, leb, List, [], ◌∷◌, ◌++◌, length, take, drop, refl, sym, ap, ◌∙◌, subst, arith, rules, decimal, lit≤, codes, nat_eq, append_assoc, append-nil, length-append, Option, None, Some}
-use Rattle.std.proofs.lemmas.Bool.{and_parts, and_cases, or_cases, eqb-true, leb-true, ltb-false, leb-false, le-ltb, not-false}
+use Rattle.std.proofs.Common.{◌≡◌, ℕ, ◌/◌, ◌%◌, ◌≤◌, inl, inr, Bool, true, false, cond, not, ◌||◌, eqb, ltb, leb, List, [], ◌∷◌, ◌++◌, length, take, drop, refl, sym, ap, ◌∙◌, subst, arith, decimal, lit≤, codes, nat_eq, append_assoc, append-nil, length-append, Option, None, Some}
+use Rattle.std.proofs.lemmas.Bool.{and_parts, eqb-true, leb-true, ltb-false, leb-false, le-ltb, not-false}
 use Rattle.std.specs.List.{starts_with, before_first, after_first, flat_map}
 use Rattle.std.proofs.lemmas.Grind.{flat_map-append}
 use Rattle.std.proofs.Math.Seq.{take-length, drop-append_seam}
-use Rattle.journal_text.specs.declared.entry.What.{What}
 use Rattle.journal_text.specs.declared.entry.What.TheVariants.{Sig, Tick, Data, Eof}
 use Rattle.journal_text.specs.declared.entry.Entry.{Entry}
 use Rattle.journal_text.specs.declared.refusal.JournalRefusal.{JournalRefusal}
-use Rattle.journal_text.specs.Contents.{Contents, empty, is_input, has_eof, data_len, total_len}
+use Rattle.journal_text.specs.Contents.{Contents, empty, is_input, data_len, total_len}
 use Rattle.journal_text.specs.Spelling.{header, event_text, entry_text, entry_line, spell, hex}
-use Rattle.journal_text.specs.Lines.{Line, lines, Parts, parts_of, number, is_digits, is_hex, is_hex_digit, hex_bytes, has_leading_zero, is_sig, is_tick, is_data, is_end, is_form, what_of, data_of, entry_of}
-use Rattle.journal_text.specs.Refusals.{when, ◌orelse◌, parts_refusal, line_refusal, next_line, is_bad_number, is_bad_signal, is_out_of_order, is_after_eof, is_full, is_in_scope, with_parts, with_line, with_lines, first_bad_line, first_bad, entries_of}
+use Rattle.journal_text.specs.Lines.{Line, lines, Parts, parts_of, parts_behind, number, is_digits, hex_bytes, has_leading_zero, is_sig, is_tick, is_data, is_end, is_form, what_of, data_of, entry_of}
+use Rattle.journal_text.specs.Refusals.{◌orelse◌, line_refusal, is_in_scope, with_parts, with_line, with_lines, first_bad_line, first_bad, entries_of}
 use Rattle.journal_text.specs.Valid.{IsEvent, MayFollow, EachFollows, IsJournal}
 use Rattle.journal_text.proofs.Digits.{decimal-number, hex-hex_bytes, length-hex_bytes, AreBytes, AreBytes-hex_bytes, AreBytes-append}
-use Rattle.journal_text.proofs.Parts.{IsGood, good_parts, AreNumbers, are_numbers, when_none, and_second}
-use Rattle.journal_text.proofs.Cuts.{cut_or_none, line_text, flat_map-lines}
+use Rattle.journal_text.proofs.Parts.{IsGood, good_parts, are_numbers, when_none, and_second}
+use Rattle.journal_text.proofs.Cuts.{IsCut, is_cut, line_text, flat_map-lines}
 use Rattle.journal_text.proofs.Events.{begins, IsForm, tick, eof, sig, bytes, is_form_by}
 use Rattle.journal_text.proofs.Follows.{EachFollows-push, total_len-append, lines-append}
 
 -- a line of one of the four forms is its parts
-pub written_back : (text : List ℕ) → is_form (parts_of text) ≡ true → text ≡ (parts_of text).n ++ 46 ∷ (parts_of text).k ++ 32 ∷ (parts_of text).event
+abbrev pub IsWhole : List ℕ → Parts → Type 0
+IsWhole text p = text ≡ p.n ++ 46 ∷ p.k ++ 32 ∷ p.event
+
+abbrev pub is_event : List ℕ → Bool
+is_event event = is_tick event || (is_end event || (is_sig event || is_data event))
+
+by_cuts : (text rest : List ℕ) → rest ≡ after_first (λ b. eqb b 46) text
+    → is_digits (before_first (λ b. eqb b 32) rest) ≡ true → is_event (after_first (λ b. eqb b 32) rest) ≡ true
+    → IsCut 46 text → IsCut 32 rest → IsWhole text (parts_behind (before_first (λ b. eqb b 46) text) rest)
+by_cuts text rest same digits event (inl h) (inl g) =
+    let n = before_first (λ b. eqb b 46) text in
+    let p = parts_behind n rest in
+    h ∙ ap (λ r. n ++ 46 ∷ r) (sym same ∙ g) ∙ sym (append_assoc n (46 ∷ p.k) (32 ∷ p.event))
+by_cuts text rest same digits event (inr h) g =
+    let no_digits = subst (λ r. is_digits (before_first (λ b. eqb b 32) r) ≡ true) (same ∙ h) digits in cc
+by_cuts text rest same digits event (inl h) (inr g) =
+    let no_event = subst (λ e. is_event e ≡ true) g event in cc
+
+pub written_back : (text : List ℕ) → is_form (parts_of text) ≡ true → IsWhole text (parts_of text)
 written_back text form =
+    let rest = after_first (λ b. eqb b 46) text in
     let first = and_parts (is_digits (parts_of text).n) _ form in
     let second = and_parts (is_digits (parts_of text).k) _ first.1 in
-    by_cuts text second.0 second.1 (cut_or_none 46 text) (cut_or_none 32 (after_first (λ b. eqb b 46) text))
-  where
-    by_cuts : (text : List ℕ) → is_digits (parts_of text).k ≡ true
-        → (is_tick (parts_of text).event || (is_end (parts_of text).event || (is_sig (parts_of text).event || is_data (parts_of text).event))) ≡ true
-        → ((text ≡ before_first (λ b. eqb b 46) text ++ 46 ∷ after_first (λ b. eqb b 46) text) ⊎ (after_first (λ b. eqb b 46) text ≡ []))
-        → ((after_first (λ b. eqb b 46) text ≡ before_first (λ b. eqb b 32) (after_first (λ b. eqb b 46) text) ++ 32 ∷ after_first (λ b. eqb b 32) (after_first (λ b. eqb b 46) text)) ⊎ (after_first (λ b. eqb b 32) (after_first (λ b. eqb b 46) text) ≡ []))
-        → text ≡ (parts_of text).n ++ 46 ∷ (parts_of text).k ++ 32 ∷ (parts_of text).event
-    by_cuts text digits event (inl h) (inl g) = h ∙ ap (λ rest. before_first (λ b. eqb b 46) text ++ 46 ∷ rest) g ∙ sym (append_assoc (parts_of text).n (46 ∷ (parts_of text).k) (32 ∷ (parts_of text).event))
-    by_cuts text digits event (inr h) g = let no_digits = subst (λ rest. is_digits (before_first (λ b. eqb b 32) rest) ≡ true) h digits in cc
-    by_cuts text digits event (inl h) (inr g) = let no_event = subst (λ e. (is_tick e || (is_end e || (is_sig e || is_data e))) ≡ true) g event in cc
+    by_cuts text rest refl second.0 second.1 (is_cut 46 text) (is_cut 32 rest)
 
 -- the place of data does not tell whether an event is input
 pub is_input-what_of : (start : ℕ) (event : List ℕ) → is_input (what_of start event) ≡ is_input (what_of 0 event)
 unfolding what_of
 is_input-what_of start event = by_tests (is_tick event) (is_end event) (is_sig event) start (number (drop 4 event)) (length (drop 5 event) / 2)
   where
-    by_tests : (a b c : Bool) (start n len : ℕ) → is_input (cond a Tick (cond b Eof (cond c (Sig n) (Data start len)))) ≡ is_input (cond a Tick (cond b Eof (cond c (Sig n) (Data 0 len))))
+    by_tests : (a b c : Bool) (start n len : ℕ)
+        → is_input (cond a Tick (cond b Eof (cond c (Sig n) (Data start len)))) ≡ is_input (cond a Tick (cond b Eof (cond c (Sig n) (Data 0 len))))
     by_tests true b c start n len = refl
     by_tests false true c start n len = refl
     by_tests false false true start n len = refl
@@ -54,7 +64,8 @@ pub record IsRead (before : List Entry) (start : ℕ) (event all : List ℕ) : T
   pub small : AreBytes (data_of event)
 
 -- the signal's number is in scope, without a leading zero
-in_scope : (j : Contents) (p : Parts) (ds : List ℕ) → IsGood j p → p.event ≡ codes "sig " ++ ds → is_digits ds ≡ true → (is_in_scope (number ds) ≡ true) × (has_leading_zero ds ≡ false)
+in_scope : (j : Contents) (p : Parts) (ds : List ℕ) → IsGood j p → p.event ≡ codes "sig " ++ ds
+    → is_digits ds ≡ true → (is_in_scope (number ds) ≡ true) × (has_leading_zero ds ≡ false)
 in_scope j p ds good e digits =
     let is : is_sig p.event ≡ true = ap is_sig e ∙ digits in
     let rest : drop 4 p.event ≡ ds = ap (drop 4) e in
@@ -62,7 +73,9 @@ in_scope j p ds good e digits =
     let scope = not-false _ (and_second (is_sig p.event) _ good.signal is) in
     (rw rest at scope, rw rest at plain)
 
-is_read_by : (j : Contents) (p : Parts) (all : List ℕ) → IsGood j p → length j.bytes ≡ total_len j.entries → take (length (data_of p.event)) (drop (length j.bytes) all) ≡ data_of p.event → IsForm (length j.bytes) p.event → IsRead j.entries (length j.bytes) p.event all
+is_read_by : (j : Contents) (p : Parts) (all : List ℕ) → IsGood j p → length j.bytes ≡ total_len j.entries
+    → take (length (data_of p.event)) (drop (length j.bytes) all) ≡ data_of p.event
+    → IsForm (length j.bytes) p.event → IsRead j.entries (length j.bytes) p.event all
 is_read_by j p all good whole part (tick e what no_bytes) = record {
   text = ap (event_text all) what ∙ sym e;
   valid = subst (IsEvent j.entries) (sym what) tt;
@@ -91,9 +104,10 @@ is_read_by j p all good whole part (bytes ds e is_of_hex what are) =
     let least = leb-true _ _ low.0 in
     let most = leb-true _ _ high.0 in
     let len = length-hex_bytes ds in
+    let digits = hex-hex_bytes ds even.1 (eqb-true _ _ even.0) in
     let same : take (length ds / 2) (drop (length j.bytes) all) ≡ hex_bytes ds = rw (are, len) at part in
     record {
-      text = ap (event_text all) what ∙ ap (λ d. codes "data " ++ hex d) same ∙ ap (λ d. codes "data " ++ d) (hex-hex_bytes ds even.1 (eqb-true _ _ even.0)) ∙ sym e;
+      text = ap (event_text all) what ∙ ap (λ d. codes "data " ++ hex d) same ∙ ap (λ d. codes "data " ++ d) digits ∙ sym e;
       valid = subst (IsEvent j.entries) (sym what) (whole, omega arith, omega arith);
       len = ap data_len what ∙ sym (ap length are ∙ len);
       small = subst AreBytes (sym are) (AreBytes-hex_bytes ds even.1);
@@ -107,7 +121,9 @@ pub record IsSoFar (j : Contents) : Type 0 where
   pub few : length j.entries ≤ 1000000
 
 -- the entry of a line without a refusal may follow, and is spelled as the line
-entry_spelled : (j : Contents) (text all : List ℕ) → IsGood j (parts_of text) → IsRead j.entries (length j.bytes) (parts_of text).event all → entry_text all (entry_of (length j.bytes) (parts_of text)) ≡ text
+entry_spelled : (j : Contents) (text all : List ℕ) → IsGood j (parts_of text)
+    → IsRead j.entries (length j.bytes) (parts_of text).event all
+    → entry_text all (entry_of (length j.bytes) (parts_of text)) ≡ text
 entry_spelled j text all good read =
     let p = parts_of text in
     let form = good.form in
@@ -121,7 +137,8 @@ entry_spelled j text all good read =
     ∙ ap (λ d. p.n ++ 46 ∷ p.k ++ 32 ∷ d) read.text
     ∙ sym (written_back text form)
 
-may_follow : (j : Contents) (p : Parts) (all : List ℕ) → IsGood j p → IsRead j.entries (length j.bytes) p.event all → MayFollow j.entries (entry_of (length j.bytes) p)
+may_follow : (j : Contents) (p : Parts) (all : List ℕ) → IsGood j p
+    → IsRead j.entries (length j.bytes) p.event all → MayFollow j.entries (entry_of (length j.bytes) p)
 may_follow j p all good read =
     let numbers = are_numbers p good.number in
     record {
@@ -133,7 +150,8 @@ may_follow j p all good read =
     }
 
 -- a line more
-step : (j : Contents) (text : List ℕ) → IsSoFar j → IsGood j (parts_of text) → IsSoFar (with_parts j (parts_of text)) × (spell (with_parts j (parts_of text)) ≡ spell j ++ (text ++ 10 ∷ []))
+step : (j : Contents) (text : List ℕ) → IsSoFar j → IsGood j (parts_of text)
+    → IsSoFar (with_parts j (parts_of text)) × (spell (with_parts j (parts_of text)) ≡ spell j ++ (text ++ 10 ∷ []))
 step j text so_far good =
     let p = parts_of text in
     let all = j.bytes ++ data_of p.event in
@@ -165,7 +183,8 @@ orelse_none None b h = (refl, h)
 orelse_none (Some r) b h = cc
 
 -- all lines
-pub along : (j : Contents) (all : List Line) → IsSoFar j → first_bad_line j all ≡ None → IsSoFar (with_lines j all) × (spell (with_lines j all) ≡ spell j ++ flat_map line_text all)
+pub along : (j : Contents) (all : List Line) → IsSoFar j → first_bad_line j all ≡ None
+    → IsSoFar (with_lines j all) × (spell (with_lines j all) ≡ spell j ++ flat_map line_text all)
 along j [] so_far good = (so_far, sym (append-nil (spell j)))
 along j (line ∷ all) so_far good =
     let parts = orelse_none (line_refusal j line) _ good in
@@ -188,10 +207,11 @@ spelled text good =
     let read = along empty (lines behind) (record { each = tt; whole = refl; bytes = tt; few = lit≤ tt }) begun.1 in
     let e : text ≡ spell (with_lines empty (lines behind)) =
     begins text header (not-false _ begun.0) ∙ sym (read.1 ∙ ap (λ x. header ++ x) (flat_map-lines behind)) in
-    let most = ltb-false _ _ short.0 in
-    (record { each = read.0.each; whole = read.0.whole; bytes = read.0.bytes; few = read.0.few; short = subst (λ x. length x ≤ 16777216) e most }, e)
+    let most = subst (λ x. length x ≤ 16777216) e (ltb-false _ _ short.0) in
+    (record { each = read.0.each; whole = read.0.whole; bytes = read.0.bytes; few = read.0.few; short = most }, e)
 
 -- the refusal of a text with the header
-pub first_bad-header : (text : List ℕ) → length text ≤ 16777216 → starts_with nat_eq text header ≡ true → first_bad text ≡ first_bad_line empty (lines (drop 14 text))
+pub first_bad-header : (text : List ℕ) → length text ≤ 16777216 → starts_with nat_eq text header ≡ true
+    → first_bad text ≡ first_bad_line empty (lines (drop 14 text))
 unfolding first_bad
 first_bad-header text short begins = rw (le-ltb 16777216 (length text) short, begins) refl
