@@ -5,3 +5,4 @@ pub mod Events
 pub mod Follows
 pub mod SpelledLaw
 pub mod ReadAgainLaw
+pub mod FormsLaw

@@ -94,12 +94,14 @@ event_again before (Data start len) all is small inside =
 event_again before Eof all is small inside = record { form = refl; plain = refl; signal = refl; what = refl; input = refl; bytes = refl; one_line = refl }
 
 -- a line is cut into the parts that it was made of
-parts_again : (n k : ℕ) (event : List ℕ) → n < 2 ^ 64 → k < 2 ^ 64
-    → parts_of (decimal n ++ 46 ∷ decimal k ++ 32 ∷ event) ≡ record { n = decimal n; k = decimal k; event = event }
-parts_again n k event n_fits k_fits =
-    let first = cut_here 46 (decimal n) (decimal k ++ 32 ∷ event) (no_mark 46 n (lit< tt) n_fits) in
-    let second = cut_here 32 (decimal k) event (no_mark 32 k (lit< tt) k_fits) in
-    ap parts_of (append_assoc (decimal n) (46 ∷ decimal k) (32 ∷ event)) ∙ rw (first.0, first.1, second.0, second.1) refl
+pub parts_of-line : (n k event : List ℕ) → list_all is_ascii_digit n ≡ true → list_all is_ascii_digit k ≡ true
+    → parts_of (n ++ 46 ∷ k ++ 32 ∷ event) ≡ record { n = n; k = k; event = event }
+parts_of-line n k event n_digits k_digits =
+    let n_free = list_all-weaker is_ascii_digit (differs 46) (digit_differs 46 (lit< tt)) n n_digits in
+    let k_free = list_all-weaker is_ascii_digit (differs 32) (digit_differs 32 (lit< tt)) k k_digits in
+    let first = cut_here 46 n (k ++ 32 ∷ event) n_free in
+    let second = cut_here 32 k event k_free in
+    ap parts_of (append_assoc n (46 ∷ k) (32 ∷ event)) ∙ rw (first.0, first.1, second.0, second.1) refl
 
 one_line : (n k : ℕ) (event : List ℕ) → n < 2 ^ 64 → k < 2 ^ 64 → list_all (differs 10) event ≡ true
     → list_all (differs 10) (decimal n ++ 46 ∷ decimal k ++ 32 ∷ event) ≡ true
@@ -176,7 +178,9 @@ again all before (e ∷ es) each small inside few =
     let n_fits : e.place.n < 2 ^ 64 = omega (arith, may.n) in
     let k_fits : e.place.k < 2 ^ 64 = omega (arith, may.k) in
     let is = event_again before e.what all may.event small (omega arith) in
-    let parts = parts_again e.place.n e.place.k (event_text all e.what) n_fits k_fits in
+    let n_digits = (decimal_is_written e.place.n n_fits).each in
+    let k_digits = (decimal_is_written e.place.k k_fits).each in
+    let parts = parts_of-line (decimal e.place.n) (decimal e.place.k) (event_text all e.what) n_digits k_digits in
     let alone = one_line e.place.n e.place.k (event_text all e.what) n_fits k_fits is.one_line in
     let cut = ap lines (append_assoc text (10 ∷ []) rest) ∙ lines_here text rest alone in
     let good = ap (parts_refusal j) parts ∙ parts_none j _ (good_again j e (event_text all e.what) all may (omega arith) is) in

@@ -1,4 +1,9 @@
-ghost use Rattle.journal_text.specs.Laws.{OneJournal, ReadAgain, Spelled};
+ghost use Rattle.journal_text.specs.Laws.{FourForms, OneJournal, ReadAgain, Spelled};
+
+/// The test of a line's parts tells exactly whether the line is of one of the four forms.
+pub fn four_forms()
+    ensures { FourForms }
+{}
 
 /// A text without a refusal is the text of the journal that it spells.
 pub fn spelled()

@@ -12,7 +12,7 @@ mod written;
 
 pub use entry::{Entry, What};
 pub use journal::Journal;
-pub use laws::{one_journal, read_again, spelled};
+pub use laws::{four_forms, one_journal, read_again, spelled};
 pub use print::print_journal;
 pub use read::read_journal;
 pub use refusal::JournalRefusal;
