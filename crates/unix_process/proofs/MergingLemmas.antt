@@ -1,16 +1,16 @@
 -- Lists with an item merged in.
-use Rattle.std.proofs.Common.{◌≡◌, ℕ, zero, suc, ◌+◌, ◌<◌, ◌≤◌, ◌^◌, Bool, true, false, cond, refl, sym, ap, ◌∙◌, subst, inl, inr, eqb, arith, rules, tests, List, [], ◌∷◌, ◌++◌, length, get_or, set, map, ◌||◌, Option, Some, None, IsTrue}
+use Rattle.std.proofs.Common.{◌≡◌, ℕ, zero, suc, ◌+◌, ◌<◌, ◌≤◌, ◌^◌, Bool, true, false, cond, refl, sym, ap, ◌∙◌, subst, inl, inr, eqb, arith, rules, tests, List, [], ◌∷◌, ◌++◌, length, get_or, set, drop, map, ◌||◌, Option, Some, None}
 use Rattle.std.proofs.lemmas.Bool.{eq-eqb, ne_eqb, eqb-true, eqb-false, cases_Bool, or_parts, or_from, or_cases}
 use Rattle.std.proofs.lemmas.Iterator.Adapters.{position_from-zero}
 use Rattle.std.proofs.lemmas.List.Quantifiers.{position-Some}
 use Rattle.std.proofs.lemmas.Map.Steps.{length-le_from_distinct_below}
-use Rattle.std.specs.List.{IsDistinct, AllByRecursion, list_any, position, position_from}
+use Rattle.std.specs.List.{IsDistinct, AllByRecursion, list_any, position, position_from, slice_get}
 use Rattle.std.specs.Option.{option_or}
 use Rattle.thread_base.specs.Numbers.{IsInScope}
 use Rattle.unix_process.specs.declared.UnixEvent.{UnixEvent}
 use Rattle.unix_process.specs.declared.UnixEvent.TheVariants.{Sig, Tick, Input}
 use Rattle.unix_process.specs.declared.Taken.{Taken}
-use Rattle.unix_process.specs.Merging.{same_event, IsEvent, merged, count_of, first_of, events, is_among, IsTally, IsCounted, CountsAddUp, OrderStays, FirstsStay, StaysTally, StaysCounted}
+use Rattle.unix_process.specs.Merging.{same_event, IsEvent, merged, count_of, first_of, events, is_among, IsTally, IsCounted, NothingLost, CountsAddUp, OrderStays, FirstsStay, StaysTally, StaysCounted}
 
 eqb_comm : (a b : ℕ) → eqb a b ≡ eqb b a
 eqb_comm a b =
@@ -147,6 +147,11 @@ stays_counted item (t ∷ ts) more h =
       | inl is ↦ subst IsCounted (sym (merged_here item t ts is)) (omega arith, h.1)
       | inr un ↦ subst IsCounted (sym (merged_later item t ts un)) (h.0, stays_counted item ts more h.1)
     ]
+
+-- the first and the others make up the list
+pub first_and_rest : (ts : List Taken) → NothingLost ts (slice_get ts 0) (drop 1 ts)
+first_and_rest [] e = omega arith
+first_and_rest (t ∷ ts) e = omega arith
 
 -- an event's slot counts no more than all of its slots
 pub counted_at : (e : UnixEvent) (ts : List Taken) (i : ℕ) (d : Taken) → i < length ts → same_event (get_or ts i d).event e ≡ true → (get_or ts i d).count ≤ count_of e ts

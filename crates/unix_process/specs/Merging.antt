@@ -2,7 +2,7 @@
 -- (POSIX.1 signals merge while they pend; that a count is kept is this project's own).
 use Rattle.std.specs.Prelude.{ℕ, ◌≡◌, ◌+◌, ◌≤◌, ◌==◌, Bool, true, false, if◌then◌else◌, List, [], ◌∷◌, ◌++◌, map, Option, Some, None}
 use Rattle.std.specs.List.{list_any}
-use Rattle.std.specs.Option.{option_or}
+use Rattle.std.specs.Option.{option_or, option_to_list}
 use Rattle.thread_base.specs.Numbers.{IsInScope}
 use Rattle.unix_process.specs.declared.UnixEvent.{UnixEvent}
 use Rattle.unix_process.specs.declared.UnixEvent.TheVariants.{Sig, Tick, Input}
@@ -68,6 +68,10 @@ IsTally (t ∷ ts) = IsEvent t.event × (is_among t.event ts ≡ false) × IsTal
 abbrev pub IsCounted : List Taken → Type 0
 IsCounted [] = Unit {0}
 IsCounted (t ∷ ts) = (1 ≤ t.count) × IsCounted ts
+
+-- for each event what was taken and what is left make up what was there
+abbrev pub NothingLost : List Taken → Option Taken → List Taken → Type 0
+NothingLost was taken left = (e : UnixEvent) → count_of e was ≡ count_of e (option_to_list taken) + count_of e left
 
 -- after a merge each event's count is the old one and what was added to it
 abbrev pub CountsAddUp : Type 0

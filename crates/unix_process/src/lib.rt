@@ -10,9 +10,8 @@ mod tests;
 mod unix;
 
 pub use tally::Tally;
-pub use unix::Unix;
-
 use thread_base::Sig;
+pub use unix::Unix;
 
 /// The most bytes of input that are ever granted.
 pub const INPUT_LIMIT: u32 = 16_777_216;

@@ -1,5 +1,5 @@
 ghost use Rattle.std.specs.Prelude.{◌≡◌, ◌<◌, ◌≤◌, ◌+◌, ◌^◌, [], length, slice_get, drop, position};
-ghost use Rattle.unix_process.specs.Merging.{same_event, merged, recounted, count_of, IsTally};
+ghost use Rattle.unix_process.specs.Merging.{same_event, merged, recounted, count_of, IsTally, NothingLost};
 
 use crate::{Taken, UnixEvent};
 use arrayvec::ArrayVec;
@@ -78,6 +78,7 @@ impl Tally {
     pub fn take(&mut self) -> Option<Taken>
         ensures taken { result ≡ slice_get self.old 0 }
         ensures rest { self.new ≡ drop 1 self.old }
+        ensures counts { NothingLost self.old result self.new }
     {
         self.slots.pop_at(0)
     }

@@ -1,5 +1,5 @@
 ghost use Rattle.std.specs.Prelude.{◌≡◌, ◌<◌, ◌≤◌, ◌+◌, ◌-◌, ◌^◌, [], true, false, length, slice_get, drop};
-ghost use Rattle.unix_process.specs.Merging.{one_entry, merged, count_of};
+ghost use Rattle.unix_process.specs.Merging.{one_entry, merged, count_of, NothingLost};
 ghost use Rattle.unix_process.specs.Unix.{IsSound};
 
 use crate::{INPUT_LIMIT, Taken, Tally, UnixEvent};
@@ -21,17 +21,17 @@ impl Model for Unix {
     ghost Value = { UnixState };
 
     ghost view = { λ u. record {
-        blocked = u.blocked;
-        pending = u.pending;
-        granted = u.granted;
-        consumed = u.consumed;
+      blocked = u.blocked;
+      pending = u.pending;
+      granted = u.granted;
+      consumed = u.consumed;
     } };
 
     ghost invariant = { λ u. IsSound (record {
-        blocked = u.blocked;
-        pending = u.pending;
-        granted = u.granted;
-        consumed = u.consumed;
+      blocked = u.blocked;
+      pending = u.pending;
+      granted = u.granted;
+      consumed = u.consumed;
     }) };
 }
 
@@ -53,7 +53,7 @@ impl Unix {
     pub fn accept(&mut self, event: UnixEvent, first: u32)
         requires { count_of event self.old.pending < 2 ^ 32 - 1 }
         ensures { self.new ≡ record self.old {
-            pending = merged (one_entry event first) self.old.pending;
+          pending = merged (one_entry event first) self.old.pending;
         } }
     {
         self.pending.merge(Taken {
@@ -68,6 +68,7 @@ impl Unix {
     pub fn take(&mut self) -> Option<Taken>
         ensures first { result ≡ slice_get self.old.pending 0 }
         ensures rest { self.new ≡ record self.old { pending = drop 1 self.old.pending } }
+        ensures counts { NothingLost self.old.pending result self.new.pending }
     {
         self.pending.take()
     }
