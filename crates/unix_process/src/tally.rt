@@ -1,5 +1,5 @@
 ghost use Rattle.std.specs.Prelude.{◌≡◌, ◌<◌, ◌≤◌, ◌+◌, ◌^◌, [], length, slice_get, drop, position};
-ghost use Rattle.unix_process.specs.Merging.{same_event, merged, recounted, count_of, IsTally, NothingLost};
+ghost use Rattle.unix_process.specs.Merging.{same_event, merged, recounted, count_of, IsTally, IsCounted, NothingLost};
 
 use crate::{Taken, UnixEvent};
 use arrayvec::ArrayVec;
@@ -50,6 +50,7 @@ impl Tally {
         requires { count_of item.event self.old + item.count < 2 ^ 32 }
         ensures list { self.new ≡ merged item self.old }
         ensures once { IsTally self.new }
+        ensures counted { 1 ≤ item.count → IsCounted self.old → IsCounted self.new }
     {
         let _in_scope = item.event.signal();
         match self.position(item.event) {

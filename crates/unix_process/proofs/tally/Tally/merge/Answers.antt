@@ -1,9 +1,9 @@
-use Rattle.std.proofs.Common.{◌≡◌, ◌<◌, ◌+◌, ◌^◌, ◌++◌, ◌∷◌, [], ◌∙◌, ℕ, List, Some, None, ap, sym, subst, arith, lit<, false, get_or, set, length, length-set}
+use Rattle.std.proofs.Common.{◌≡◌, ◌<◌, ◌≤◌, ◌+◌, ◌^◌, ◌++◌, ◌∷◌, [], ◌∙◌, ℕ, List, Some, None, ap, sym, subst, arith, lit<, false, get_or, set, length, length-set}
 use Rattle.arrayvec.proofs.ArrayVecLemmas.{items-with_items}
 use Rattle.std.specs.List.{position, refill}
 use Rattle.unix_process.specs.declared.Taken.{Taken}
-use Rattle.unix_process.specs.Merging.{same_event, count_of, merged, is_among, IsTally}
-use Rattle.unix_process.proofs.MergingLemmas.{absent, merged_behind, raised, raised_fits, raised_is, room, stays_tally}
+use Rattle.unix_process.specs.Merging.{same_event, count_of, merged, is_among, IsTally, IsCounted}
+use Rattle.unix_process.proofs.MergingLemmas.{absent, merged_behind, raised, raised_fits, raised_is, room, stays_counted, stays_tally}
 use Rattle.unix_process.proofs.tally.Tally.merge.Goals as goal
 
 -- the slots that are lent are the value, and the event stands at a place of it
@@ -67,3 +67,20 @@ returns-in-Some-clause-once c = invariant_of-self c
 
 pub returns-in-None-clause-once : goal.returns-in-None-clause-once
 returns-in-None-clause-once c = invariant_of-self-in-None c
+
+-- what is as after the merge counts as it does
+counted : (item : Taken) (slots value after : List Taken) → slots ≡ value → after ≡ merged item slots → 1 ≤ item.count → IsCounted value → IsCounted after
+counted item slots value after shown is more h =
+    subst IsCounted (sym is) (stays_counted item slots more (subst IsCounted (sym shown) h))
+
+pub returns-in-Some-clause-counted : goal.returns-in-Some-clause-counted
+returns-in-Some-clause-counted c =
+    counted c.args.item c.self.inside.slots.items c.args.self.now _ c.self.view_is
+    (written c.args.item c.index-deref_mut-i.result c.deref_mut.result.now c.self.inside.slots.items c.args.self.now c.in-Some.i
+    (record { all = c.deref_mut.ensures.value; shown = c.self.view_is; found = sym c.position.ensures ∙ c.in-Some.is }))
+
+pub returns-in-None-clause-counted : goal.returns-in-None-clause-counted
+returns-in-None-clause-counted c =
+    let absent = new c.args.item c.self.inside.slots.items c.args.self.now c.self.view_is (sym c.position.ensures ∙ c.in-None.is) in
+    counted c.args.item c.self.inside.slots.items c.args.self.now _ c.self.view_is
+    (c.push.ensures.items ∙ sym (merged_behind c.args.item c.self.inside.slots.items absent))
