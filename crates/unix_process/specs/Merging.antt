@@ -21,7 +21,7 @@ signal_of (Sig s) = Some s
 signal_of Tick = None
 signal_of Input = None
 
--- a signal is one in scope
+-- an event that there is: a signal is one in scope
 abbrev pub IsEvent : UnixEvent → Type 0
 IsEvent (Sig s) = IsInScope s
 IsEvent Tick = Unit {0}
@@ -59,7 +59,7 @@ events ts = map (λ t. t.event) ts
 abbrev pub is_among : UnixEvent → List Taken → Bool
 is_among e ts = list_any (λ t. same_event t.event e) ts
 
--- each event stands once
+-- each event is one that there is, and stands once
 abbrev pub IsTally : List Taken → Type 0
 IsTally [] = Unit {0}
 IsTally (t ∷ ts) = IsEvent t.event × (is_among t.event ts ≡ false) × IsTally ts

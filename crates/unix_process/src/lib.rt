@@ -16,7 +16,7 @@ pub use unix::Unix;
 /// The most bytes of input that are ever granted.
 pub const INPUT_LIMIT: u32 = 16_777_216;
 
-/// An event from outside: a signal, a tick of the clock, or input.
+/// An event from outside: a signal, a tick of the clock, or input. The default fills empty slots.
 #[derive(Clone, Copy, Debug, PartialEq, Eq, Default)]
 pub enum UnixEvent {
     Sig(Sig),
