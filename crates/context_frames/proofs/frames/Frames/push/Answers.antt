@@ -1,0 +1,12 @@
+use Rattle.std.proofs.Common.{◌∙◌, ap, arith, ◌++◌, ◌∷◌, []}
+use Rattle.thread_base.specs.Maps.{put}
+use Rattle.context_frames.specs.Contexts.{stack_of}
+use Rattle.context_frames.proofs.StackLemmas.{stack_changed}
+use Rattle.context_frames.proofs.frames.Frames.push.Goals as goal
+
+pub returns-clause-frames : goal.returns-clause-frames
+returns-clause-frames c =
+    stack_changed (record { stacks = c.self.inside.stacks.items; saved = c.self.inside.saved.items }) c.index.result c.args.t
+    c.index_mut-stack.result.now c.push.new.self (λ frames. frames ++ c.args.f ∷ [])
+    c.index_mut-stack.ensures.value c.index.ensures.value (omega (arith, c.self.invariant.0)) c.push.ensures.items
+    ∙ ap (λ v. put (stack_of v) c.args.t (stack_of v c.args.t ++ c.args.f ∷ [])) c.self.view_is
