@@ -36,16 +36,16 @@ impl Default for Frame {
     }
 }
 
-/// What is left to do at the tail of a kernel entry before the thread goes on: to look again for what came
-/// in the meantime, or to return to the program (this project's own).
+/// Where an exit from the kernel goes on that was interrupted: it looks again for what came in meanwhile, or it
+/// returns to the thread (this project's own).
 #[derive(Clone, Copy, Debug, PartialEq, Eq)]
 pub enum TailStep {
     Recheck,
     Return,
 }
 
-/// How a thread goes on: with its registers in its program, at a step of the tail of a kernel entry, or,
-/// where it never ran, with its first registers (this project's own).
+/// How a thread goes on: in its program, between two instructions; at a step of an exit from the kernel that was
+/// interrupted; or afresh, where it never ran (this project's own).
 #[derive(Clone, Copy, Debug)]
 pub enum Saved {
     User(Regs),

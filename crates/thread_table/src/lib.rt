@@ -4,7 +4,8 @@
 #[cfg(test)]
 mod tests;
 
-ghost use Rattle.std.specs.Prelude.{◌≡◌, IsSome, IfSome};
+ghost use Rattle.std.specs.Prelude.{◌≡◌, ◌↔◌, ℕ, IsNone, IsSome, IfSome};
+ghost use Rattle.thread_base.specs.Numbers.{IsTid};
 ghost use Rattle.thread_base.specs.Maps.{put, numbered};
 ghost use Rattle.thread_table.specs.Rows.{rows, free_number, put_found, is_live, live_count};
 
@@ -40,6 +41,8 @@ impl Threads {
     /// Gives a new thread the least free number; None, and nothing changes, exactly where all 64 are in use.
     pub fn make(&mut self, row: Row) -> Option<Tid>
         ensures number { result ≡ free_number (rows self.old) }
+        ensures fresh { IfSome result (λ t. IsNone (rows self.old t)) }
+        ensures full { IsNone result ↔ ((t : ℕ) → IsTid t → IsSome (rows self.old t)) }
         ensures after { rows self.new ≡ put_found (rows self.old) result row }
     {
         let number = self.least_free()?;
