@@ -3,9 +3,8 @@
 #![tactic(auto)]
 
 mod beginning;
-mod notes;
 mod returns;
 mod rows;
 
-pub use beginning::{begin, begin_unknown};
+pub use beginning::{begin, begin_unknown, step};
 pub use returns::{begin_fault, begin_return};

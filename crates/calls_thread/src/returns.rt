@@ -4,9 +4,8 @@ ghost use Rattle.posix_model.specs.Deliveries.{faulted};
 ghost use Rattle.posix_model.specs.Instructions.{returned};
 ghost use Rattle.posix_model.specs.Leaving.{end_of_thread, start_exit};
 ghost use Rattle.kernel_state.specs.View.{view};
-ghost use Rattle.calls_thread.specs.Begun.{CanBegin, IsNoted, IsBegun};
+ghost use Rattle.kernel_state.specs.Begun.{CanBegin, IsNoted, IsBegun};
 
-use crate::notes::{note_one, note_two};
 use kernel_state::{Change, Kernel};
 use posix_model::Head;
 use ready_queues::Ready;
@@ -21,8 +20,7 @@ pub fn begin_fault<R: Ready + Drop>(k: &mut Kernel<R>, t: Tid, s: Sig)
     requires { CanBegin R.order k.old t }
     ensures { IsBegun R.order k.old k.new (faulted (view R.order k.old.tables) t s) }
 {
-    note_one(
-        k,
+    k.note_one(
         t,
         Change::Pend {
             thread: t,
@@ -38,8 +36,7 @@ fn note_end<R: Ready + Drop>(k: &mut Kernel<R>, t: Tid, value: u32)
     ensures { IsNoted R.order k.old k.new (end_of_thread (view R.order k.old.tables) t value) }
 {
     match k.tables().joiner(t) {
-        None => note_one(
-            k,
+        None => k.note_one(
             t,
             Change::End {
                 thread: t,
@@ -47,8 +44,7 @@ fn note_end<R: Ready + Drop>(k: &mut Kernel<R>, t: Tid, value: u32)
                 joined: false,
             },
         ),
-        Some(u) => note_two(
-            k,
+        Some(u) => k.note_two(
             t,
             Change::Answer {
                 thread: u,
@@ -70,7 +66,7 @@ fn note_exit<R: Ready + Drop>(k: &mut Kernel<R>, t: Tid)
     ensures { IsNoted R.order k.old k.new (begun (start_exit (view R.order k.old.tables) t (slice_index ((view R.order k.old.tables).threads t).registers.x 10))) }
 {
     let value = k.tables().there(t).regs.x[10];
-    note_one(k, t, Change::StartExit { thread: t, value });
+    k.note_one(t, Change::StartExit { thread: t, value });
 }
 
 /// Begins a special return of a thread that is ready, or the fault with SIGSEGV where it is not due.

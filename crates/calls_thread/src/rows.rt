@@ -6,32 +6,14 @@ ghost use Rattle.posix_model.specs.Calls as calls;
 ghost use Rattle.posix_model.specs.Calls.{cannot_start, values};
 ghost use Rattle.posix_model.specs.Changes.{begun};
 ghost use Rattle.kernel_state.specs.View.{view};
-ghost use Rattle.calls_thread.specs.Begun.{CanBegin, IsNoted, is_thread_call};
+ghost use Rattle.calls_thread.specs.Numbers.{is_thread_call};
+ghost use Rattle.kernel_state.specs.Begun.{CanBegin, IsNoted};
 
-use crate::notes::{note_one, note_two};
 use kernel_state::{Beginning, Change, Kernel};
 use posix_model::{Arguments, Attributes, Ending, Reply, Wait};
 use ready_queues::Ready;
 use thread_base::{Errno, Tid};
 use thread_table::Row;
-
-/// Answers an error, and changes nothing else.
-pub(crate) fn refuse<R: Ready + Drop>(k: &mut Kernel<R>, t: Tid, error: Errno) -> Reply
-    requires { CanBegin R.order k.old t }
-    ensures noted { IsNoted R.order k.old k.new (calls.refused (view R.order k.old.tables) t error).made }
-    ensures reply { result ≡ (calls.refused (view R.order k.old.tables) t error).reply }
-{
-    note_one(
-        k,
-        t,
-        Change::Reply {
-            thread: t,
-            error: error.code(),
-            value: 0,
-        },
-    );
-    Reply::refusal(error)
-}
 
 /// Tells the caller's number, by POSIX.1 pthread_self.
 pub(crate) fn self_number<R: Ready + Drop>(k: &mut Kernel<R>, t: Tid) -> Reply
@@ -39,8 +21,7 @@ pub(crate) fn self_number<R: Ready + Drop>(k: &mut Kernel<R>, t: Tid) -> Reply
     ensures noted { IsNoted R.order k.old k.new (calls.self_number (view R.order k.old.tables) t).made }
     ensures reply { result ≡ (calls.self_number (view R.order k.old.tables) t).reply }
 {
-    note_one(
-        k,
+    k.note_one(
         t,
         Change::Reply {
             thread: t,
@@ -58,8 +39,7 @@ pub(crate) fn yield_turn<R: Ready + Drop>(k: &mut Kernel<R>, t: Tid) -> Reply
     ensures noted { IsNoted R.order k.old k.new (calls.yield (view R.order k.old.tables) t).made }
     ensures reply { result ≡ (calls.yield (view R.order k.old.tables) t).reply }
 {
-    note_two(
-        k,
+    k.note_two(
         t,
         Change::ToEnd { thread: t },
         Change::Reply {
@@ -100,10 +80,10 @@ pub(crate) fn create<R: Ready + Drop>(k: &mut Kernel<R>, t: Tid, c: Arguments) -
     ensures reply { result ≡ (calls.create (view R.order k.old.tables) t c).reply }
 {
     if cannot_start(c) {
-        return refuse(k, t, Errno::EINVAL);
+        return k.refuse(t, Errno::EINVAL);
     }
     match k.tables().free_number() {
-        None => refuse(k, t, Errno::EAGAIN),
+        None => k.refuse(t, Errno::EAGAIN),
         Some(u) => start(k, t, u, c),
     }
 }
@@ -114,8 +94,7 @@ pub(crate) fn exit_thread<R: Ready + Drop>(k: &mut Kernel<R>, t: Tid, c: Argumen
     ensures noted { IsNoted R.order k.old k.new (calls.exit_thread (view R.order k.old.tables) t c).made }
     ensures reply { result ≡ (calls.exit_thread (view R.order k.old.tables) t c).reply }
 {
-    note_one(
-        k,
+    k.note_one(
         t,
         Change::StartExit {
             thread: t,
@@ -131,8 +110,7 @@ pub(crate) fn exit<R: Ready + Drop>(k: &mut Kernel<R>, t: Tid, c: Arguments) -> 
     ensures noted { IsNoted R.order k.old k.new (calls.exit (view R.order k.old.tables) t c).made }
     ensures reply { result ≡ (calls.exit (view R.order k.old.tables) t c).reply }
 {
-    note_one(
-        k,
+    k.note_one(
         t,
         Change::Over {
             ending: Ending::Exit(c.a % 256),
@@ -150,8 +128,7 @@ fn start<R: Ready + Drop>(k: &mut Kernel<R>, t: Tid, u: Tid, c: Arguments) -> Re
     ensures reply { result ≡ (calls.created (view R.order k.old.tables) t c (Some u)).reply }
 {
     let creator = k.tables().there(t).row;
-    note_two(
-        k,
+    k.note_two(
         t,
         Change::Create {
             thread: u,
@@ -173,13 +150,13 @@ pub(crate) fn join<R: Ready + Drop>(k: &mut Kernel<R>, t: Tid, c: Arguments) -> 
     ensures reply { result ≡ (calls.join (view R.order k.old.tables) t c).reply }
 {
     if c.a == t.number() {
-        return refuse(k, t, Errno::EDEADLK);
+        return k.refuse(t, Errno::EDEADLK);
     }
     let Some(u) = k.tables().thread(c.a) else {
-        return refuse(k, t, Errno::ESRCH);
+        return k.refuse(t, Errno::ESRCH);
     };
     if k.tables().is_taken(u) {
-        return refuse(k, t, Errno::EINVAL);
+        return k.refuse(t, Errno::EINVAL);
     }
     join_thread(k, t, u)
 }
@@ -194,8 +171,7 @@ fn join_thread<R: Ready + Drop>(k: &mut Kernel<R>, t: Tid, u: Tid) -> Reply
 {
     match k.tables().there(u).row.ended {
         Some(value) => {
-            note_two(
-                k,
+            k.note_two(
                 t,
                 Change::Free { thread: u },
                 Change::Reply {
@@ -207,8 +183,7 @@ fn join_thread<R: Ready + Drop>(k: &mut Kernel<R>, t: Tid, u: Tid) -> Reply
             Reply::Values(0, value)
         }
         None => {
-            note_one(
-                k,
+            k.note_one(
                 t,
                 Change::Await {
                     thread: t,
@@ -227,10 +202,10 @@ pub(crate) fn detach<R: Ready + Drop>(k: &mut Kernel<R>, t: Tid, c: Arguments) -
     ensures reply { result ≡ (calls.detach (view R.order k.old.tables) t c).reply }
 {
     let Some(u) = k.tables().thread(c.a) else {
-        return refuse(k, t, Errno::ESRCH);
+        return k.refuse(t, Errno::ESRCH);
     };
     if k.tables().is_taken(u) {
-        return refuse(k, t, Errno::EINVAL);
+        return k.refuse(t, Errno::EINVAL);
     }
     detach_thread(k, t, u)
 }
@@ -248,8 +223,8 @@ fn detach_thread<R: Ready + Drop>(k: &mut Kernel<R>, t: Tid, u: Tid) -> Reply
         value: 0,
     };
     match k.tables().there(u).row.ended {
-        Some(_) => note_two(k, t, Change::Free { thread: u }, answer),
-        None => note_two(k, t, Change::Detach { thread: u }, answer),
+        Some(_) => k.note_two(t, Change::Free { thread: u }, answer),
+        None => k.note_two(t, Change::Detach { thread: u }, answer),
     }
     Reply::Values(0, 0)
 }

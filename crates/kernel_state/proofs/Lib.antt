@@ -1,3 +1,4 @@
 pub mod ViewLemmas
 pub mod CurrentLemmas
 pub mod StartLemmas
+pub mod NoteLemmas

@@ -1,3 +1,4 @@
 pub mod View
 pub mod Changing
 pub mod Moves
+pub mod Begun

@@ -2,18 +2,28 @@ ghost use Rattle.std.specs.Prelude.{◌≡◌, ◌<◌, ◌++◌, [], ◌∷◌,
 ghost use Rattle.posix_model.specs.Reports.{nothing_told};
 ghost use Rattle.posix_model.specs.Start.{start_state};
 ghost use Rattle.kernel_state.specs.View.{view, made, AreCurrent};
-ghost use Rattle.kernel_state.specs.Changing.{owed, AllCan};
-ghost use Rattle.kernel_state.specs.Moves.{owed_by, told_by, is_nil};
+ghost use Rattle.posix_model.specs.Changes.{begun};
+ghost use Rattle.posix_model.specs.Calls.{refused};
+ghost use Rattle.kernel_state.specs.Changing.{Can, change_by, AllCan};
+ghost use Rattle.kernel_state.specs.Begun.{CanBegin, IsNoted};
+ghost use Rattle.kernel_state.specs.Moves.{owed_by, told_by, is_nil, IsStep};
 
 use crate::change::Change;
 use crate::tables::Tables;
 use arrayvec::ArrayVec;
 use elf_image::EntryPoint;
-use posix_model::{Head, Report, Settings};
+use posix_model::{Head, Reply, Report, Settings};
 use ready_queues::Ready;
 use rv_exec::Memory;
 use std::alloc::Global;
-use thread_base::{NoMemory, Tid};
+use thread_base::{Errno, NoMemory, Tid};
+
+/// What a step of a move gave: more of it is left, or it is made, with its report.
+#[derive(Clone, Copy, Debug)]
+pub enum Stepped {
+    More,
+    Exit(Report),
+}
 
 /// The kernel: all tables, and of the move in progress the small changes that are still to be made, its
 /// thread and its main line.
@@ -67,12 +77,49 @@ impl<R: Ready + Drop> Kernel<R> {
     }
 
     /// Notes a small change that the move in progress still has to make, behind those noted before.
-    pub fn note(&mut self, change: Change)
+    fn note(&mut self, change: Change)
         requires { length self.old.rest.items < 8 }
         ensures rest { self.new.rest.items ≡ self.old.rest.items ++ change ∷ [] }
         ensures others { self.new ≡ record self.old { rest = self.new.rest } }
     {
         self.rest.push(change);
+    }
+
+    /// Notes the one small change of a move of a thread that is ready.
+    pub fn note_one(&mut self, t: Tid, change: Change)
+        requires ready { CanBegin R.order self.old t }
+        requires can { Can change (begun (view R.order self.old.tables)) }
+        ensures { IsNoted R.order self.old self.new (change_by change (begun (view R.order self.old.tables))) }
+    {
+        self.note(change);
+    }
+
+    /// Notes the two small changes of a move of a thread that is ready.
+    pub fn note_two(&mut self, t: Tid, first: Change, second: Change)
+        requires ready { CanBegin R.order self.old t }
+        requires first { Can first (begun (view R.order self.old.tables)) }
+        requires second { Can second (change_by first (begun (view R.order self.old.tables))) }
+        ensures { IsNoted R.order self.old self.new (change_by second (change_by first (begun (view R.order self.old.tables)))) }
+    {
+        self.note(first);
+        self.note(second);
+    }
+
+    /// Notes the answer of a refusal: an error, and nothing else changes.
+    pub fn refuse(&mut self, t: Tid, error: Errno) -> Reply
+        requires { CanBegin R.order self.old t }
+        ensures noted { IsNoted R.order self.old self.new (refused (view R.order self.old.tables) t error).made }
+        ensures reply { result ≡ (refused (view R.order self.old.tables) t error).reply }
+    {
+        self.note_one(
+            t,
+            Change::Reply {
+                thread: t,
+                error: error.code(),
+                value: 0,
+            },
+        );
+        Reply::refusal(error)
     }
 
     /// Notes the thread and the main line of the move in progress.
@@ -116,5 +163,20 @@ impl<R: Ready + Drop> Kernel<R> {
         };
         self.tables.report = Report::nothing();
         report
+    }
+
+    /// Makes the next small change of the move in progress. Exit comes exactly where it was the last one.
+    pub fn step_move(&mut self) -> Stepped
+        requires left { is_nil self.old.rest.items ≡ false }
+        requires can { AllCan (made R.order self.old.tables) self.old.rest.items }
+        ensures step { IsStep R.order self.old result self.new }
+        ensures current { AreCurrent (R.prio self.old.tables.ready) (view R.order self.old.tables) → AreCurrent (R.prio self.new.tables.ready) (view R.order self.new.tables) }
+    {
+        self.step();
+        if self.is_idle() {
+            Stepped::Exit(self.take_report())
+        } else {
+            Stepped::More
+        }
     }
 }

@@ -8,6 +8,6 @@ mod life;
 mod tables;
 
 pub use change::{Beginning, Change};
-pub use kernel::Kernel;
+pub use kernel::{Kernel, Stepped};
 pub use life::{Life, Lives};
 pub use tables::{Fault, Kept, Tables};

@@ -1,5 +1,5 @@
 -- What a move may begin on, and that its small changes were noted.
-use Rattle.std.specs.Prelude.{ℕ, ◌≡◌, ◌==◌, ◌||◌, ◌&&◌, Bool, nat_le, slice_index, List, []}
+use Rattle.std.specs.Prelude.{ℕ, ◌≡◌, slice_index, List, []}
 use Rattle.posix_model.specs.State.{none_pending}
 use Rattle.posix_model.specs.Good.{IsGood}
 use Rattle.posix_model.specs.Changes.{Made}
@@ -31,10 +31,6 @@ pub record IsBegun {R : Type 0} (order : R → List ℕ) (k q : Kernel R) (g : M
   pub can : AllCan (made order q.tables) q.rest.items
   pub tables : q.tables ≡ k.tables
   pub settings : q.settings ≡ k.settings
-
--- the numbers of the calls that begin here: exit of the process, and the calls of threads
-abbrev pub is_thread_call : ℕ → Bool
-is_thread_call number = (number == 93) || (nat_le 256 number && nat_le number 261)
 
 -- the arguments of a call by their names
 abbrev pub arguments_of : List ℕ → Arguments
