@@ -1,14 +1,15 @@
 -- The tables at the start of a run.
-use Rattle.std.proofs.Common.{◌≡◌, ◌≢◌, ◌∙◌, ap, sym, refl, ℕ, true, false, List, [], ◌∷◌, length, Option, Some, None, find, is_none}
+use Rattle.std.proofs.Common.{◌≡◌, ◌≢◌, ◌∙◌, ap, sym, refl, ℕ, true, false, not, List, [], ◌∷◌, length, Option, Some, None, find, is_none}
 use Rattle.thread_base.specs.Maps.{put}
 use Rattle.thread_base.specs.Orders.{is_in}
 use Rattle.thread_base.specs.Priority.{tids}
 use Rattle.thread_base.proofs.MapLemmas.{put_is, put_same, put_other}
 use Rattle.thread_table.specs.Rows.{rows, free_number, put_found}
 use Rattle.thread_table.specs.declared.Row.{Row}
-use Rattle.posix_model.specs.State.{State, Thread, Registers, no_thread}
+use Rattle.posix_model.specs.State.{State, Thread, Registers, is_absent, is_ready, no_thread}
 use Rattle.posix_model.specs.Start.{start_state, start_registers, main_thread}
 use Rattle.kernel_state.specs.View.{view, AreCurrent, thread_of, threads_of, lives_of, contexts_of, pending_of, no_life, main_row}
+use Rattle.kernel_state.specs.Changing.{IsListed}
 use Rattle.kernel_state.specs.declared.life.Life.{Life}
 use Rattle.kernel_state.specs.declared.tables.Tables.{Tables}
 use Rattle.kernel_state.proofs.CurrentLemmas.{come_current, moved_current}
@@ -49,3 +50,9 @@ no_one p memory entry u h = absurd (let e : false ≡ true = h in cc)
 pub start_current : (p : ℕ → ℕ) (memory : List ℕ) (entry : ℕ) → AreCurrent (put p 1 8) (start_state memory entry)
 start_current p memory entry =
     come_current (record (start_state memory entry) { threads = λ t. no_thread; ready = [] }) 1 (main_thread (length memory) entry) p (no_one p memory entry)
+
+-- at the start thread 1 is ready
+pub start_listed : (memory : List ℕ) (entry : ℕ) → IsListed (start_state memory entry) 1
+start_listed memory entry =
+    let here = put_same (λ t. no_thread) 1 (main_thread (length memory) entry) in
+    (ap (λ (x : Thread). not (is_absent x.standing)) here, refl, ap (λ (x : Thread). is_ready x.standing) here)

@@ -52,6 +52,7 @@ impl<R: Ready + Drop> Kernel<R> {
         ensures idle { IfOk result (λ k. k.rest.items ≡ []) }
         ensures untold { IfOk result (λ k. k.tables.report ≡ nothing_told) }
         ensures settings { IfOk result (λ k. k.settings ≡ settings) }
+        ensures ready { IfOk result (λ k. CanBegin R.order k 1) }
     {
         Ok(Kernel {
             tables: Tables::new(alloc, ready, memory, entry)?,
@@ -163,6 +164,22 @@ impl<R: Ready + Drop> Kernel<R> {
         };
         self.tables.report = Report::nothing();
         report
+    }
+
+    /// Makes all that is left of the move in progress, and gives its report: the tables then show what was owed.
+    pub fn finish(&mut self) -> Report
+        requires { AllCan (made R.order self.old.tables) self.old.rest.items }
+        ensures state { view R.order self.new.tables ≡ (owed_by R.order self.old).state }
+        ensures report { result ≡ (told_by self.old.tid self.old.head (owed_by R.order self.old)).report }
+        ensures idle { self.new.rest.items ≡ [] }
+        ensures untold { self.new.tables.report ≡ nothing_told }
+        ensures settings { self.new.settings ≡ self.old.settings }
+        ensures current { AreCurrent (R.prio self.old.tables.ready) (view R.order self.old.tables) → AreCurrent (R.prio self.new.tables.ready) (view R.order self.new.tables) }
+    {
+        while !self.is_idle() {
+            self.step();
+        }
+        self.take_report()
     }
 
     /// Makes the next small change of the move in progress. Exit comes exactly where it was the last one.
