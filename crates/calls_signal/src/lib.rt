@@ -1,6 +1,9 @@
 //! The calls of input, output and signals: of them write alone is built.
 #![tactic(auto)]
 
+#[cfg(test)]
+mod tests;
+
 ghost use Rattle.std.specs.Prelude.{◌≡◌, false, length};
 ghost use Rattle.rv_exec.specs.Window.{fits};
 ghost use Rattle.posix_model.specs.Calls as calls;

@@ -5,6 +5,8 @@
 mod beginning;
 mod returns;
 mod rows;
+#[cfg(test)]
+mod tests;
 
 pub use beginning::{begin, begin_unknown, step};
 pub use returns::{begin_fault, begin_return};
