@@ -27,8 +27,8 @@ unfoldable pub cleanups_of : Cancellations → ℕ → List Cleanup
 cleanups_of cancellations t = (numbered no_cleanups cancellations.stacks t).items
 
 -- three flags by their names, in the order enabled, asynchronous, pending
-abbrev pub named : Bool × Bool × Bool → Flags
-named f = record { enabled = f.0; asynchronous = f.1; pending = f.2 }
+abbrev pub flags_from : Bool × Bool × Bool → Flags
+flags_from f = record { enabled = f.0; asynchronous = f.1; pending = f.2 }
 
 -- the last record of a list, if there is one
 abbrev pub last_of : List Cleanup → Option Cleanup

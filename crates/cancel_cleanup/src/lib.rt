@@ -6,7 +6,7 @@ mod tests;
 
 ghost use Rattle.std.specs.Prelude.{◌≡◌, ◌==◌, ◌++◌, ◌≤◌, ◌↔◌, [], ◌∷◌, not, length, IfOk, IsNone, replicate, if◌then◌else◌};
 ghost use Rattle.thread_base.specs.Maps.{put};
-ghost use Rattle.cancel_cleanup.specs.Cancellations.{flags_of, cleanups_of, named, first_flags, last_of, before_last, no_cleanups};
+ghost use Rattle.cancel_cleanup.specs.Cancellations.{flags_of, cleanups_of, flags_from, first_flags, last_of, before_last, no_cleanups};
 
 use arrayvec::ArrayVec;
 use std::alloc::Global;
@@ -113,7 +113,7 @@ impl Cancels {
 
     /// A thread's flags: enabled, asynchronous, pending.
     pub fn flags(&self, t: Tid) -> (bool, bool, bool)
-        ensures { named result ≡ flags_of self.now t }
+        ensures { flags_from result ≡ flags_of self.now t }
     {
         let flags = self.flags[t.index()];
         (flags.enabled, flags.asynchronous, flags.pending)
@@ -121,7 +121,7 @@ impl Cancels {
 
     /// Sets a thread's flags: enabled, asynchronous, pending.
     pub fn set_flags(&mut self, t: Tid, f: (bool, bool, bool))
-        ensures flags { flags_of self.new ≡ put (flags_of self.old) t (named f) }
+        ensures flags { flags_of self.new ≡ put (flags_of self.old) t (flags_from f) }
         ensures cleanups { cleanups_of self.new ≡ cleanups_of self.old }
     {
         let (enabled, asynchronous, pending) = f;

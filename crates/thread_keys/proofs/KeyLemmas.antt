@@ -10,16 +10,16 @@ use Rattle.thread_keys.specs.declared.key.Key.{Key}
 use Rattle.std.specs.List.{range_with_len}
 use Rattle.thread_keys.specs.KeyTable.{values_of, values_in, destructor_of, value_of, key_numbers, free_key, put_value, without_key, is_due, due_key}
 
-abbrev told : Option Key → Option ℕ
-told = option_map (λ key. key.destructor)
+abbrev destructor_in : Option Key → Option ℕ
+destructor_in = option_map (λ key. key.destructor)
 
 destructors_set : (keys : List (Option Key)) (k : ℕ) (o : Option Key) → k < length keys
-    → destructor_of (set keys k o) ≡ put (destructor_of keys) k (told o)
+    → destructor_of (set keys k o) ≡ put (destructor_of keys) k (destructor_in o)
 unfolding destructor_of
 destructors_set keys k o h =
-    put_is (λ u. told (get_or keys u None)) (λ u. told (get_or (set keys k o) u None)) k (told o)
-    (ap told (get_or-set_same keys k o None h))
-    (λ u ne. ap told (get_or-set_other keys k u o None ne))
+    put_is (λ u. destructor_in (get_or keys u None)) (λ u. destructor_in (get_or (set keys k o) u None)) k (destructor_in o)
+    (ap destructor_in (get_or-set_same keys k o None h))
+    (λ u ne. ap destructor_in (get_or-set_other keys k u o None ne))
 
 values_set : (keys : List (Option Key)) (k : ℕ) (o : Option Key) (t : ℕ) → k < length keys
     → value_of (set keys k o) t ≡ put (value_of keys t) k (values_in o t)
@@ -41,7 +41,7 @@ destructor_removed keys k h = destructors_set keys k None h
 pub values_removed : (keys : List (Option Key)) (k : ℕ) → k < length keys → value_of (set keys k None) ≡ without_key (value_of keys) k
 values_removed keys k h = λ i t. values_set keys k None t h i
 
-absent : (o : Option Key) (t : ℕ) → told o ≡ None → values_in o t ≡ 0
+absent : (o : Option Key) (t : ℕ) → destructor_in o ≡ None → values_in o t ≡ 0
 absent None t e = refl
 absent (Some key) t e = let x : Some key.destructor ≡ None = e in cc
 
@@ -85,7 +85,7 @@ pub destructor_kept : (keys : List (Option Key)) (k : ℕ) (key after : Key) →
 unfolding destructor_of
 destructor_kept keys k key after h is same =
     destructors_set keys k (Some after) h
-    ∙ put_kept (λ u. told (get_or keys u None)) k (Some after.destructor) (ap told is ∙ ap Some (sym same))
+    ∙ put_kept (λ u. destructor_in (get_or keys u None)) k (Some after.destructor) (ap destructor_in is ∙ ap Some (sym same))
 
 blank : (n k : ℕ) → get_or (replicate n (let o : Option Key = None in o)) k None ≡ None
 blank zero k = refl
@@ -95,7 +95,7 @@ blank (suc n) (suc k) = blank n k
 -- of blanks alone, nothing is a key
 pub destructor_blank : (keys : List (Option Key)) → keys ≡ replicate 128 None → destructor_of keys ≡ (λ k. None)
 unfolding destructor_of
-destructor_blank keys e = λ i k. (ap (λ xs. told (get_or xs k None)) e ∙ ap told (blank 128 k)) i
+destructor_blank keys e = λ i k. (ap (λ xs. destructor_in (get_or xs k None)) e ∙ ap destructor_in (blank 128 k)) i
 
 pub values_blank : (keys : List (Option Key)) → keys ≡ replicate 128 None → value_of keys ≡ (λ t k. 0)
 unfolding value_of
@@ -104,7 +104,7 @@ values_blank keys e = λ i t k. (ap (λ xs. values_in (get_or xs k None) t) e �
 -- nothing is a key from the table's end on
 pub destructor_past : (keys : List (Option Key)) (k : ℕ) → length keys ≤ k → destructor_of keys k ≡ None
 unfolding destructor_of
-destructor_past keys k h = ap told (get_or_past keys k None h)
+destructor_past keys k h = ap destructor_in (get_or_past keys k None h)
 
 some_of : {A : Type 0} (o : Option A) → is_none o ≡ false → IsSome o
 some_of None h = absurd (let e : true ≡ false = h in cc)

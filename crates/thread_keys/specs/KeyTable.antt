@@ -57,6 +57,6 @@ abbrev pub call_of : (ℕ → Option ℕ) → (ℕ → ℕ → ℕ) → ℕ → 
 call_of destructors values t found = option_map (λ k. (k, unwrap_or (destructors k) 0, values t k)) found
 
 -- the values after the thread's value of the key that was found, if one was, is set to 0
-abbrev pub taken : (ℕ → ℕ → ℕ) → ℕ → Option ℕ → ℕ → ℕ → ℕ
-taken values t None = values
-taken values t (Some k) = put_value values t k 0
+abbrev pub zero_found : (ℕ → ℕ → ℕ) → ℕ → Option ℕ → ℕ → ℕ → ℕ
+zero_found values t None = values
+zero_found values t (Some k) = put_value values t k 0

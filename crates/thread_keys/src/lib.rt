@@ -5,10 +5,10 @@ mod key;
 #[cfg(test)]
 mod tests;
 
-ghost use Rattle.std.specs.Prelude.{◌≡◌, ◌==◌, ◌<◌, ◌≤◌, ◌↔◌, ℕ, Some, None, not, false, is_some, is_none, IfOk, IfSome, IsSome, IsNone, replicate, option_copied, slice_index_or, if◌then◌else◌};
+ghost use Rattle.std.specs.Prelude.{◌≡◌, ◌<◌, ◌≤◌, ◌↔◌, ℕ, false, is_some, IfOk, IfSome, IsSome, IsNone, option_copied, slice_index_or, if◌then◌else◌};
 ghost use Rattle.std.specs.Option.{option_map};
 ghost use Rattle.thread_base.specs.Maps.{put};
-ghost use Rattle.thread_keys.specs.KeyTable.{destructor_of, value_of, free_key, put_found, put_value, without_key, is_due, due_key, call_of, taken};
+ghost use Rattle.thread_keys.specs.KeyTable.{destructor_of, value_of, free_key, put_found, put_value, without_key, is_due, due_key, call_of, zero_found};
 
 use crate::key::Key;
 use std::alloc::Global;
@@ -100,7 +100,7 @@ impl Keys {
         ensures none { IsNone result
             ↔ ((k : ℕ) → from ≤ k → k < 128 → is_due (destructor_of self.old) (value_of self.old) t k ≡ false) }
         ensures values { value_of self.new
-            ≡ taken (value_of self.old) t (due_key (destructor_of self.old) (value_of self.old) t from) }
+            ≡ zero_found (value_of self.old) t (due_key (destructor_of self.old) (value_of self.old) t from) }
         ensures destructors { destructor_of self.new ≡ destructor_of self.old }
     {
         let k = self.least_due(t, from)?;
