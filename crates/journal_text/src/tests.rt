@@ -187,13 +187,13 @@ fn a_million_entries(rt: HostRuntime) -> Result<(), Fail> {
     let alloc = rt.alloc();
     let mut text = text_of(alloc, b"")?;
     for _ in 0..1_000_000u32 {
-        text.extend_from_slice(b"0.0 sig 10\n")?;
+        text.extend_from_slice(b"100000.0 sig 10\n")?;
     }
     let journal = read_journal(alloc, &text)?;
     assert_eq!(rt; journal.len(), 1_000_000);
     let printed = print_journal(alloc, &journal)?;
     assert!(rt; printed.as_slice() == text.as_slice());
-    text.extend_from_slice(b"0.0 sig 10\n")?;
+    text.extend_from_slice(b"100000.0 sig 10\n")?;
     let found = answer(alloc, &text)?;
     assert_eq!(rt; found.as_str(), "TooMany 1000002");
     Ok(())
