@@ -2,3 +2,5 @@ pub mod ViewLemmas
 pub mod CurrentLemmas
 pub mod StartLemmas
 pub mod NoteLemmas
+pub mod ExecutingLemmas
+pub mod PendingLemmas

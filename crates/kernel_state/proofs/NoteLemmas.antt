@@ -1,8 +1,8 @@
 -- Small changes that were noted on an idle kernel.
-use Rattle.std.proofs.Common.{◌≡◌, ◌∙◌, ap, sym, refl, subst, ℕ, true, false, List, [], ◌∷◌, ◌++◌}
+use Rattle.std.proofs.Common.{◌≡◌, ◌∙◌, ap, sym, refl, subst, ℕ, true, false, List, [], ◌∷◌}
 use Rattle.posix_model.specs.Changes.{Made, begun}
 use Rattle.kernel_state.specs.View.{view, made}
-use Rattle.kernel_state.specs.Changing.{change_by, Can, owed, AllCan}
+use Rattle.kernel_state.specs.Changing.{owed, AllCan}
 use Rattle.kernel_state.specs.declared.change.Change.{Change}
 use Rattle.kernel_state.specs.declared.kernel.Kernel.{Kernel}
 use Rattle.kernel_state.specs.Begun.{CanBegin, IsNoted}

@@ -1,18 +1,16 @@
 -- The tables at the start of a run.
-use Rattle.std.proofs.Common.{◌≡◌, ◌≢◌, ◌∙◌, ap, sym, refl, ℕ, true, false, not, List, [], ◌∷◌, length, Option, Some, None, find, is_none}
+use Rattle.std.proofs.Common.{◌≡◌, ◌≢◌, ◌∙◌, ap, refl, ℕ, true, false, not, List, [], ◌∷◌, length, Option, Some, None}
 use Rattle.thread_base.specs.Maps.{put}
-use Rattle.thread_base.specs.Orders.{is_in}
 use Rattle.thread_base.specs.Priority.{tids}
 use Rattle.thread_base.proofs.MapLemmas.{put_is, put_same, put_other}
 use Rattle.thread_table.specs.Rows.{rows, free_number, put_found}
 use Rattle.thread_table.specs.declared.Row.{Row}
-use Rattle.posix_model.specs.State.{State, Thread, Registers, is_absent, is_ready, no_thread}
+use Rattle.posix_model.specs.State.{Thread, is_absent, is_ready, no_thread}
 use Rattle.posix_model.specs.Start.{start_state, start_registers, main_thread}
 use Rattle.kernel_state.specs.View.{view, AreCurrent, thread_of, threads_of, lives_of, contexts_of, pending_of, no_life, main_row}
 use Rattle.kernel_state.specs.Changing.{IsListed}
-use Rattle.kernel_state.specs.declared.life.Life.{Life}
 use Rattle.kernel_state.specs.declared.tables.Tables.{Tables}
-use Rattle.kernel_state.proofs.CurrentLemmas.{come_current, moved_current}
+use Rattle.kernel_state.proofs.CurrentLemmas.{come_current}
 
 -- the first number is free where none is in use
 first_free : free_number (λ t. None) ≡ Some 1

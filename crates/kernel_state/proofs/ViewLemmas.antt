@@ -1,5 +1,5 @@
 -- What the tables show after a change of one thread.
-use Rattle.std.proofs.Common.{◌≡◌, ◌≢◌, ◌∙◌, ap, sym, refl, ℕ, zero, suc, ◌+◌, arith, eqb, Bool, true, false, not, cond, find, ◌||◌, List, [], ◌∷◌, Option, Some, None, is_none, is_some}
+use Rattle.std.proofs.Common.{◌≡◌, ◌≢◌, ◌∙◌, ap, sym, refl, ℕ, ◌+◌, arith, eqb, Bool, true, false, not, cond, find, ◌||◌, List, [], ◌∷◌, Option, Some, None, is_none, is_some}
 use Rattle.std.specs.Prelude.{fold, map, replicate, ◌==◌}
 use Rattle.std.specs.List.{list_any}
 use Rattle.std.proofs.lemmas.Bool.{ne_eqb}
@@ -7,7 +7,7 @@ use Rattle.std.specs.Option.{IsSome}
 use Rattle.thread_base.specs.Maps.{put}
 use Rattle.thread_base.proofs.MapLemmas.{put_is, put_same, put_other, put-put, put_comm, put_got}
 use Rattle.thread_table.specs.declared.Row.{Row}
-use Rattle.posix_model.specs.State.{State, Thread, Registers, Standing, is_absent, is_live, no_thread, none_pending}
+use Rattle.posix_model.specs.State.{State, Thread, Registers, is_absent, is_live, no_thread, none_pending}
 use Rattle.thread_base.specs.Priority.{tids}
 use Rattle.thread_table.specs.Rows.{rows, free_number as free_row, put_found, is_live as live_row, live_count}
 use Rattle.context_frames.specs.declared.Saved.{Saved}
@@ -63,7 +63,7 @@ elsewhere saved placed t r ne = sym (put_other (λ u. context_of (saved u)) plac
 pub placed_anew : (m : ℕ → Registers) (placed t : ℕ) (r q : Registers) → t ≡ placed → put m placed q ≡ put (put m placed r) t q
 placed_anew m placed t r q e = sym (ap (λ u. put (put m placed r) u q) e ∙ put-put m placed r q)
 
-saved_contexts : (saved : ℕ → Saved) (t : ℕ) (s : Saved) → (λ u. context_of (put saved t s u)) ≡ put (λ u. context_of (saved u)) t (context_of s)
+pub saved_contexts : (saved : ℕ → Saved) (t : ℕ) (s : Saved) → (λ u. context_of (put saved t s u)) ≡ put (λ u. context_of (saved u)) t (context_of s)
 saved_contexts saved t s =
     put_is (λ u. context_of (saved u)) (λ u. context_of (put saved t s u)) t (context_of s)
     (ap context_of (put_same saved t s))

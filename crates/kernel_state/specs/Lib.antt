@@ -2,3 +2,4 @@ pub mod View
 pub mod Changing
 pub mod Moves
 pub mod Begun
+pub mod Executing

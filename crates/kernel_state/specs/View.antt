@@ -1,5 +1,5 @@
 -- The machine state that the kernel's tables show.
-use Rattle.std.specs.Prelude.{ℕ, ◌+◌, ◌≡◌, true, false, List, [], ◌∷◌, Option, Some, None}
+use Rattle.std.specs.Prelude.{ℕ, ◌≡◌, true, false, List, Option, Some, None}
 use Rattle.thread_base.specs.Maps.{put, numbered}
 use Rattle.thread_base.specs.Orders.{is_in}
 use Rattle.thread_base.specs.declared.Policy.TheVariants.{Other}

@@ -10,6 +10,8 @@ ghost use Rattle.posix_model.specs.Scheduling.{chosen};
 ghost use Rattle.posix_model.specs.Start.{start_state, start_registers};
 ghost use Rattle.posix_model.specs.Threads.{exists, free_number, joiner, some_live};
 ghost use Rattle.thread_base.specs.Maps.{put};
+ghost use Rattle.posix_model.specs.Deliveries.{next_delivery};
+ghost use Rattle.kernel_state.specs.Executing.{HasExecuted, delivery_by};
 ghost use Rattle.kernel_state.specs.View.{view, made, kept_thread, registers_of, context_of, contexts_of, with_ready, main_row, AreCurrent};
 
 use crate::life::{Life, Lives};
@@ -17,7 +19,7 @@ use context_frames::{Frames, Saved};
 use elf_image::EntryPoint;
 use posix_model::{Ending, Report};
 use ready_queues::Ready;
-use rv_exec::{BASE, Memory, Regs, START_RETURN};
+use rv_exec::{BASE, Event, Memory, Regs, START_RETURN, exec};
 use std::alloc::Global;
 use thread_base::{NoMemory, Policy, Prio, Sig, Tid};
 use thread_table::{Row, Threads};
@@ -225,6 +227,60 @@ impl<R: Ready + Drop> Tables<R> {
         ensures { result.now ≡ (view R.order self.now).memory }
     {
         &self.memory
+    }
+
+    /// The thread whose registers are in place.
+    pub fn placed(&self) -> Tid
+        ensures { result ≡ self.now.placed }
+    {
+        self.placed
+    }
+
+    /// Puts the registers of a thread in place; those that were there are saved, and the machine stays.
+    pub(crate) fn place(&mut self, t: Tid)
+        ensures view { view R.order self.new ≡ view R.order self.old }
+        ensures placed { self.new.placed ≡ t }
+        ensures report { self.new.report ≡ self.old.report }
+        ensures ready { self.new.ready ≡ self.old.ready }
+    {
+        let regs = self.context(t);
+        self.frames.save(self.placed, Saved::User(self.regs));
+        self.regs = regs;
+        self.placed = t;
+    }
+
+    /// The fault whose signal is delivered next; None exactly where no delivery is next.
+    pub fn fault(&self) -> Option<Fault>
+        ensures next { next_delivery (view R.order self.now) ≡ delivery_by result }
+        ensures is { result ≡ self.now.fault }
+    {
+        match self.fault {
+            None => None,
+            Some(fault) => {
+                let _in_range = (fault.thread.number(), fault.signal.number());
+                Some(fault)
+            }
+        }
+    }
+
+    /// How the process ended, where it is over.
+    #[tactic(auto, unfolding(crate::specs::View::view))]
+    pub fn over(&self) -> Option<Ending>
+        ensures { result ≡ (view R.order self.now).over }
+    {
+        self.over
+    }
+
+    /// Makes one instruction of the thread whose registers are in place, up to what its event asks for.
+    #[inline(always)]
+    pub(crate) fn execute(&mut self) -> Event
+        requires { exists (view R.order self.old) self.old.placed ≡ true }
+        ensures executed { HasExecuted (view R.order self.old) self.old.placed result (view R.order self.new) }
+        ensures placed { self.new.placed ≡ self.old.placed }
+        ensures report { self.new.report ≡ self.old.report }
+        ensures ready { self.new.ready ≡ self.old.ready }
+    {
+        exec(&mut self.regs, &mut self.memory)
     }
 
     /// Changes what the tables keep of a thread that is there; the others stay.

@@ -1,4 +1,4 @@
-use Rattle.std.proofs.Common.{◌∙◌, ap, sym, subst}
+use Rattle.std.proofs.Common.{ap, sym, subst}
 use Rattle.posix_model.specs.State.{State}
 use Rattle.posix_model.specs.Good.{IsGood}
 use Rattle.posix_model.proofs.GoodMoves.{goodness}

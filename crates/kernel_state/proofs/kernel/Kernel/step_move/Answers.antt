@@ -1,6 +1,6 @@
 use Rattle.std.proofs.Common.{◌∙◌, ap, sym}
 use Rattle.posix_model.specs.Changes.{Made}
-use Rattle.kernel_state.specs.View.{view, made}
+use Rattle.kernel_state.specs.View.{made}
 use Rattle.kernel_state.specs.Moves.{told_by}
 use Rattle.kernel_state.proofs.NoteLemmas.{all_made}
 use Rattle.kernel_state.proofs.kernel.Kernel.step_move.Goals as goal

@@ -1,4 +1,4 @@
-use Rattle.std.proofs.Common.{◌≡◌, ◌∙◌, sym, ap, subst, ℕ, Bool, true, false, ◌+◌, arith, Some}
+use Rattle.std.proofs.Common.{◌≡◌, ◌∙◌, sym, ap, ℕ, Bool, true, false, ◌+◌, arith, Some}
 use Rattle.thread_base.proofs.SearchLemmas.{found_from_one, found_here, found_later, found_no_more}
 use Rattle.posix_model.specs.State.{joins}
 use Rattle.kernel_state.specs.View.{view}

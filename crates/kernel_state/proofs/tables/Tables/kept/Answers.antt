@@ -1,5 +1,4 @@
-use Rattle.std.proofs.Common.{◌≡◌, ◌∙◌, sym, ap, not, Some}
-use Rattle.thread_table.specs.Rows.{rows}
+use Rattle.std.proofs.Common.{◌∙◌, sym, ap, not, Some}
 use Rattle.posix_model.specs.State.{is_absent}
 use Rattle.kernel_state.specs.View.{view, lives_of, contexts_of, thread_of}
 use Rattle.kernel_state.proofs.ViewLemmas.{row_absent}

@@ -1,4 +1,4 @@
-use Rattle.std.proofs.Common.{◌∙◌, ap, ℕ}
+use Rattle.std.proofs.Common.{◌∙◌, ap}
 use Rattle.thread_base.specs.Orders.{without}
 use Rattle.posix_model.specs.State.{State, Thread}
 use Rattle.posix_model.specs.Leaving.{over_with_last}

@@ -1,6 +1,6 @@
 use Rattle.std.proofs.Common.{ap}
 use Rattle.posix_model.specs.Changes.{Made}
-use Rattle.kernel_state.specs.View.{view, made}
+use Rattle.kernel_state.specs.View.{made}
 use Rattle.kernel_state.proofs.CurrentLemmas.{current_by, moved_current}
 use Rattle.kernel_state.proofs.tables.Tables.make.Goals as goal
 

@@ -2,8 +2,7 @@ use Rattle.std.proofs.Common.{◌∙◌, sym, refl, [], ◌∷◌, ◌++◌, Non
 use Rattle.thread_base.specs.Maps.{put}
 use Rattle.context_frames.specs.Contexts.{saved_of}
 use Rattle.thread_table.specs.Rows.{rows}
-use Rattle.kernel_state.specs.View.{view, context_of, registers_of}
-use Rattle.kernel_state.specs.declared.tables.Tables.{Tables}
+use Rattle.kernel_state.specs.View.{context_of, registers_of}
 use Rattle.kernel_state.proofs.ViewLemmas.{in_place}
 use Rattle.kernel_state.proofs.StartLemmas.{first_made, view_start, start_current}
 use Rattle.kernel_state.proofs.CurrentLemmas.{moved_current}

@@ -1,4 +1,4 @@
-use Rattle.std.proofs.Common.{◌≡◌, ◌∙◌, sym, ap}
+use Rattle.std.proofs.Common.{◌∙◌, sym}
 use Rattle.context_frames.specs.Contexts.{saved_of}
 use Rattle.context_frames.specs.declared.Saved.TheVariants.{User}
 use Rattle.kernel_state.specs.View.{context_of, registers_of}

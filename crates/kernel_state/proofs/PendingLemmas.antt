@@ -1,0 +1,31 @@
+-- The next delivery, where a fault's signal pends and where none does.
+use Rattle.std.proofs.Common.{◌≡◌, ◌∙◌, ap, ℕ, ◌≤◌, arith, Option, Some, None}
+use Rattle.std.proofs.lemmas.Bool.Decides.{nat_tests}
+use Rattle.thread_base.specs.Maps.{put}
+use Rattle.thread_base.specs.Numbers.{IsInScope}
+use Rattle.thread_base.proofs.MapLemmas.{put_same, put_other}
+use Rattle.posix_model.specs.State.{State, none_pending}
+use Rattle.posix_model.specs.Deliveries.{next_delivery}
+use Rattle.posix_model.proofs.DeliveryLemmas.{next_none, next_one}
+use Rattle.kernel_state.specs.View.{pending_of}
+use Rattle.kernel_state.specs.Executing.{delivery_by}
+use Rattle.kernel_state.specs.declared.tables.Fault.{Fault}
+
+in_range : (sig : ℕ) → IsInScope sig → (1 ≤ sig) × (sig ≤ 31)
+in_range sig h = (grind (arith, nat_tests), grind (arith, nat_tests))
+
+pub none_pends : (s : State) (o : Option Fault) → s.pending ≡ pending_of o → o ≡ None → next_delivery s ≡ delivery_by None
+none_pends s o e is = next_none s (λ t sig. ap (λ (m : ℕ → ℕ → ℕ). m t sig) e ∙ ap (λ (x : Option Fault). pending_of x t sig) is)
+
+pub one_pends : (s : State) (o : Option Fault) (fault : Fault) → s.pending ≡ pending_of o → o ≡ Some fault → 1 ≤ fault.thread → fault.thread ≤ 64 → IsInScope fault.signal
+    → next_delivery s ≡ delivery_by (Some fault)
+one_pends s o fault e is low high scope =
+    let range = in_range fault.signal scope in
+    let one : ℕ → ℕ = put (none_pending fault.thread) fault.signal 1 in
+    let same : (t v : ℕ) → s.pending t v ≡ put none_pending fault.thread one t v =
+    λ t v. ap (λ (m : ℕ → ℕ → ℕ). m t v) e ∙ ap (λ (x : Option Fault). pending_of x t v) is in
+    let here : s.pending fault.thread fault.signal ≡ 1 =
+    same fault.thread fault.signal ∙ ap (λ (m : ℕ → ℕ). m fault.signal) (put_same none_pending fault.thread one) ∙ put_same (none_pending fault.thread) fault.signal 1 in
+    next_one s fault.thread fault.signal low high range.0 range.1 (omega (arith, here))
+    (λ v ne. same fault.thread v ∙ ap (λ (m : ℕ → ℕ). m v) (put_same none_pending fault.thread one) ∙ put_other (none_pending fault.thread) fault.signal 1 v ne)
+    (λ u v ne. same u v ∙ ap (λ (m : ℕ → ℕ). m v) (put_other none_pending fault.thread one u ne))
