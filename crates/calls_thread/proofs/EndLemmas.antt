@@ -1,13 +1,11 @@
 -- The end of a thread with a joiner, as two small changes that can be made.
-use Rattle.std.proofs.Common.{◌≡◌, ◌≢◌, ◌∙◌, ap, sym, refl, ℕ, true, false, not, Some}
-use Rattle.thread_base.specs.Maps.{put}
-use Rattle.thread_base.specs.Orders.{is_in}
+use Rattle.std.proofs.Common.{◌≡◌, ◌≢◌, ◌∙◌, ap, ℕ, true, not, Some}
 use Rattle.thread_base.specs.Priority.{tids}
 use Rattle.thread_base.proofs.MapLemmas.{put_other}
 use Rattle.thread_base.proofs.OrderLemmas.{is_in-push}
 use Rattle.thread_base.proofs.SearchLemmas.{find_passes}
-use Rattle.posix_model.specs.State.{State, Thread, none_pending, is_ready, is_live, joins}
-use Rattle.posix_model.specs.Changes.{begun, append, with_reply}
+use Rattle.posix_model.specs.State.{State, Thread, none_pending, is_ready, joins}
+use Rattle.posix_model.specs.Changes.{begun, with_reply}
 use Rattle.posix_model.specs.Threads.{joiner}
 use Rattle.posix_model.specs.Good.{IsGood}
 use Rattle.posix_model.proofs.GoodLemmas.{joins_waits}
