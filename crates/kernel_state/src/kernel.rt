@@ -1,10 +1,12 @@
-ghost use Rattle.std.specs.Prelude.{◌≡◌, ◌<◌, ◌++◌, [], ◌∷◌, false, IfOk, length};
+ghost use Rattle.std.specs.Prelude.{◌≡◌, ◌<◌, ◌++◌, [], ◌∷◌, true, false, IfOk, length};
 ghost use Rattle.posix_model.specs.Reports.{nothing_told};
 ghost use Rattle.posix_model.specs.Start.{start_state};
 ghost use Rattle.kernel_state.specs.View.{view, made, AreCurrent};
 ghost use Rattle.posix_model.specs.Changes.{begun};
 ghost use Rattle.posix_model.specs.Calls.{refused};
 ghost use Rattle.kernel_state.specs.Changing.{Can, change_by, AllCan};
+ghost use Rattle.posix_model.specs.Threads.{exists};
+ghost use Rattle.kernel_state.specs.Executing.{HasExecuted};
 ghost use Rattle.kernel_state.specs.Begun.{CanBegin, IsNoted};
 ghost use Rattle.kernel_state.specs.Moves.{owed_by, told_by, is_nil, IsStep};
 
@@ -14,7 +16,7 @@ use arrayvec::ArrayVec;
 use elf_image::EntryPoint;
 use posix_model::{Head, Reply, Report, Settings};
 use ready_queues::Ready;
-use rv_exec::Memory;
+use rv_exec::{Event, Memory};
 use std::alloc::Global;
 use thread_base::{Errno, NoMemory, Tid};
 
@@ -75,6 +77,31 @@ impl<R: Ready + Drop> Kernel<R> {
         ensures { result ≡ is_nil self.now.rest.items }
     {
         self.rest.is_empty()
+    }
+
+    /// Puts the registers of a thread in place; the machine stays.
+    pub fn place(&mut self, t: Tid)
+        ensures view { view R.order self.new.tables ≡ view R.order self.old.tables }
+        ensures placed { self.new.tables.placed ≡ t }
+        ensures report { self.new.tables.report ≡ self.old.tables.report }
+        ensures ready { self.new.tables.ready ≡ self.old.tables.ready }
+        ensures others { self.new ≡ record self.old { tables = self.new.tables } }
+    {
+        self.tables.place(t);
+    }
+
+    /// Makes one instruction of the thread whose registers are in place, up to what its event asks for: with
+    /// Next it was made, by the RISC-V manual, and with another event nothing changed.
+    #[inline(always)]
+    pub fn execute(&mut self) -> Event
+        requires { exists (view R.order self.old.tables) self.old.tables.placed ≡ true }
+        ensures executed { HasExecuted (view R.order self.old.tables) self.old.tables.placed result (view R.order self.new.tables) }
+        ensures placed { self.new.tables.placed ≡ self.old.tables.placed }
+        ensures report { self.new.tables.report ≡ self.old.tables.report }
+        ensures ready { self.new.tables.ready ≡ self.old.tables.ready }
+        ensures others { self.new ≡ record self.old { tables = self.new.tables } }
+    {
+        self.tables.execute()
     }
 
     /// Notes a small change that the move in progress still has to make, behind those noted before.
