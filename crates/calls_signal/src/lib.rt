@@ -12,7 +12,7 @@ ghost use Rattle.kernel_state.specs.Changing.{AllCan};
 ghost use Rattle.kernel_state.specs.Moves.{is_nil, IsStep};
 ghost use Rattle.kernel_state.specs.Begun.{CanBegin, IsNoted, IsBegun, arguments_of};
 
-use kernel_state::{Change, Kernel, Stepped};
+use kernel_state::{Change, Kernel, Stepped, arguments_from};
 use posix_model::{Arguments, Head, Reply};
 use ready_queues::Ready;
 use rv_exec::Memory;
@@ -94,16 +94,4 @@ fn can_read(memory: &Memory, addr: u32, len: u32) -> bool
     ensures { result ≡ fits (length memory.now) addr len }
 {
     len == 0 || memory.has(addr, len as usize)
-}
-
-/// The arguments of a call by their names.
-fn arguments_from(args: [u32; 4]) -> Arguments
-    ensures { result ≡ arguments_of args }
-{
-    Arguments {
-        a: args[0],
-        b: args[1],
-        d: args[2],
-        e: args[3],
-    }
 }

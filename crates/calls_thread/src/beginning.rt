@@ -8,8 +8,8 @@ ghost use Rattle.calls_thread.specs.Numbers.{is_thread_call};
 ghost use Rattle.kernel_state.specs.Begun.{CanBegin, IsBegun, arguments_of};
 
 use crate::rows::row;
-use kernel_state::{Kernel, Stepped};
-use posix_model::{Arguments, Head};
+use kernel_state::{Kernel, Stepped, arguments_from};
+use posix_model::Head;
 use ready_queues::Ready;
 use thread_base::{CallNo, Errno, Tid};
 
@@ -56,16 +56,4 @@ pub fn begin_unknown<R: Ready + Drop>(k: &mut Kernel<R>, t: Tid, number: u32, ar
             reply,
         },
     );
-}
-
-/// The arguments of a call by their names.
-fn arguments_from(args: [u32; 4]) -> Arguments
-    ensures { result ≡ arguments_of args }
-{
-    Arguments {
-        a: args[0],
-        b: args[1],
-        d: args[2],
-        e: args[3],
-    }
 }

@@ -13,7 +13,8 @@ use Rattle.journal_text.specs.declared.refusal.JournalRefusal.{JournalRefusal}
 use Rattle.journal_text.specs.Contents.{Contents, is_input, has_eof, data_len, total_len}
 use Rattle.journal_text.specs.Spelling.{event_text, entry_text, entry_line, spell, hex}
 use Rattle.journal_text.specs.Lines.{Line, lines, Parts, parts_of, number, is_hex_digit, has_leading_zero, is_sig, is_tick, is_data, is_end, is_form, what_of, data_of}
-use Rattle.journal_text.specs.Refusals.{when, ◌orelse◌, parts_refusal, is_bad_number, is_bad_signal, is_out_of_order, is_after_eof, is_full, is_in_scope, with_parts, with_line, with_lines, first_bad_line, first_bad, entries_of}
+use Rattle.thread_base.specs.Numbers.{is_in_scope}
+use Rattle.journal_text.specs.Refusals.{when, ◌orelse◌, parts_refusal, is_bad_number, is_bad_signal, is_out_of_order, is_after_eof, is_full, with_parts, with_line, with_lines, first_bad_line, first_bad, entries_of}
 use Rattle.journal_text.specs.Valid.{IsEvent, MayFollow, EachFollows, IsJournal}
 use Rattle.journal_text.proofs.Digits.{decimal_is_written, AreBytes, AreBytes-drop, AreBytes-take, hex_bytes-hex, hex_digits, length-hex, is_hex-hex}
 use Rattle.journal_text.proofs.Parts.{IsGood}

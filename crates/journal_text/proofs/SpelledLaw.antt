@@ -10,7 +10,8 @@ use Rattle.journal_text.specs.declared.refusal.JournalRefusal.{JournalRefusal}
 use Rattle.journal_text.specs.Contents.{Contents, empty, is_input, data_len, total_len}
 use Rattle.journal_text.specs.Spelling.{header, event_text, entry_text, entry_line, spell, hex}
 use Rattle.journal_text.specs.Lines.{Line, lines, Parts, parts_of, parts_behind, number, is_digits, hex_bytes, has_leading_zero, is_sig, is_tick, is_data, is_end, is_form, what_of, data_of, entry_of}
-use Rattle.journal_text.specs.Refusals.{◌orelse◌, line_refusal, is_in_scope, with_parts, with_line, with_lines, first_bad_line, first_bad, entries_of}
+use Rattle.thread_base.specs.Numbers.{is_in_scope}
+use Rattle.journal_text.specs.Refusals.{◌orelse◌, line_refusal, with_parts, with_line, with_lines, first_bad_line, first_bad, entries_of}
 use Rattle.journal_text.specs.Valid.{IsEvent, MayFollow, EachFollows, IsJournal}
 use Rattle.journal_text.proofs.Digits.{decimal-number, hex-hex_bytes, length-hex_bytes, AreBytes, AreBytes-hex_bytes, AreBytes-append}
 use Rattle.journal_text.proofs.Parts.{IsGood, good_parts, are_numbers, when_none, and_second}

@@ -1,6 +1,7 @@
 -- The first refusal of a text as a journal (this project's own list).
 use Rattle.std.specs.Prelude.{ℕ, ◌+◌, ◌&&◌, ◌||◌, not, Bool, true, false, List, [], ◌∷◌, ◌++◌, length, Option, Some, None, nat_eq, nat_lt, nat_le, drop}
 use Rattle.std.specs.List.{starts_with}
+use Rattle.thread_base.specs.Numbers.{is_in_scope}
 use Rattle.journal_text.specs.declared.refusal.JournalRefusal.{JournalRefusal}
 use Rattle.journal_text.specs.declared.refusal.JournalRefusal.TheVariants.{TooLong, Header, Line as NoLine, Number, Signal, Order, AfterEof, TooMany}
 use Rattle.journal_text.specs.Contents.{Contents, empty, is_input, has_eof, is_before_last}
@@ -23,10 +24,6 @@ abbrev pub is_bad_number : Parts → Bool
 is_bad_number p =
     has_leading_zero p.n || (has_leading_zero p.k || ((is_sig p.event && has_leading_zero (drop 4 p.event))
     || (nat_lt 1000000000 (number p.n) || nat_lt 1000000 (number p.k))))
-
--- a number is that of a signal in scope
-abbrev pub is_in_scope : ℕ → Bool
-is_in_scope n = nat_le 1 n && (nat_le n 31 && (nat_lt n 18 || nat_lt 22 n))
 
 -- the signal is none in scope
 abbrev pub is_bad_signal : Parts → Bool

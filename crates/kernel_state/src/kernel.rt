@@ -7,14 +7,14 @@ ghost use Rattle.posix_model.specs.Calls.{refused};
 ghost use Rattle.kernel_state.specs.Changing.{Can, change_by, AllCan};
 ghost use Rattle.posix_model.specs.Threads.{exists};
 ghost use Rattle.kernel_state.specs.Executing.{HasExecuted};
-ghost use Rattle.kernel_state.specs.Begun.{CanBegin, IsNoted};
+ghost use Rattle.kernel_state.specs.Begun.{CanBegin, IsNoted, arguments_of};
 ghost use Rattle.kernel_state.specs.Moves.{owed_by, told_by, is_nil, IsStep};
 
 use crate::change::Change;
 use crate::tables::Tables;
 use arrayvec::ArrayVec;
 use elf_image::EntryPoint;
-use posix_model::{Head, Reply, Report, Settings};
+use posix_model::{Arguments, Head, Reply, Report, Settings};
 use ready_queues::Ready;
 use rv_exec::{Event, Memory};
 use std::alloc::Global;
@@ -222,5 +222,17 @@ impl<R: Ready + Drop> Kernel<R> {
         } else {
             Stepped::More
         }
+    }
+}
+
+/// The arguments of a call by their names, from a0, a1, a2 and a3.
+pub fn arguments_from(args: [u32; 4]) -> Arguments
+    ensures { result ≡ arguments_of args }
+{
+    Arguments {
+        a: args[0],
+        b: args[1],
+        d: args[2],
+        e: args[3],
     }
 }

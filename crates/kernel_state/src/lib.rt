@@ -6,8 +6,10 @@ mod changes;
 mod kernel;
 mod life;
 mod tables;
+#[cfg(test)]
+mod tests;
 
 pub use change::{Beginning, Change};
-pub use kernel::{Kernel, Stepped};
+pub use kernel::{Kernel, Stepped, arguments_from};
 pub use life::{Life, Lives};
 pub use tables::{Fault, Kept, Tables};
