@@ -1,4 +1,4 @@
-ghost use Rattle.std.specs.Prelude.{◌≡◌, slice_index};
+ghost use Rattle.std.specs.Prelude.{slice_index};
 ghost use Rattle.posix_model.specs.Changes.{begun};
 ghost use Rattle.posix_model.specs.Deliveries.{faulted};
 ghost use Rattle.posix_model.specs.Instructions.{returned};

@@ -2,7 +2,7 @@ ghost use Rattle.std.specs.Prelude.{◌≡◌, ◌+◌, true, false, Some};
 ghost use Rattle.thread_base.specs.Maps.{put};
 ghost use Rattle.thread_base.specs.Orders.{is_in};
 ghost use Rattle.posix_model.specs.State.{none_pending, is_live};
-ghost use Rattle.posix_model.specs.Threads.{exists, free_number};
+ghost use Rattle.posix_model.specs.Threads.{exists};
 ghost use Rattle.posix_model.specs.Changes.{answered as answered_of, set_thread, append, with_reply, with_answer};
 ghost use Rattle.posix_model.specs.Leaving.{over_with_last, without_thread};
 ghost use Rattle.kernel_state.specs.View.{view, made, kept_thread, registers_of, AreCurrent};

@@ -1,7 +1,6 @@
 ghost use Rattle.std.specs.Prelude.{◌≡◌, ◌++◌, [], ◌∷◌, true, false, Some, None, IfSome, is_some, IfOk, length};
-ghost use Rattle.std.specs.Option.{option_map};
-ghost use Rattle.thread_base.specs.Orders.{is_in, without, IsOrder};
-ghost use Rattle.posix_model.specs.State.{no_thread, is_absent, joins};
+ghost use Rattle.thread_base.specs.Orders.{is_in, without};
+ghost use Rattle.posix_model.specs.State.{no_thread, joins};
 ghost use Rattle.posix_model.specs.Good.{IsGood};
 ghost use Rattle.posix_model.specs.Calls.{is_taken};
 ghost use Rattle.posix_model.specs.Changes.{set_thread};
@@ -12,7 +11,7 @@ ghost use Rattle.posix_model.specs.Threads.{exists, free_number, joiner, some_li
 ghost use Rattle.thread_base.specs.Maps.{put};
 ghost use Rattle.posix_model.specs.Deliveries.{next_delivery};
 ghost use Rattle.kernel_state.specs.Executing.{HasExecuted, delivery_by};
-ghost use Rattle.kernel_state.specs.View.{view, made, kept_thread, registers_of, context_of, contexts_of, with_ready, main_row, AreCurrent};
+ghost use Rattle.kernel_state.specs.View.{view, kept_thread, registers_of, context_of, contexts_of, with_ready, main_row, AreCurrent};
 
 use crate::life::{Life, Lives};
 use context_frames::{Frames, Saved};
