@@ -23,6 +23,7 @@ use Rattle.kernel_state.specs.declared.tables.Tables.{Tables}
 abbrev pub registers_of : Regs → Registers
 registers_of r = record { pc = r.pc; x = r.x }
 
+-- the registers that were saved of a thread
 abbrev pub context_of : Saved → Registers
 context_of (User r) = registers_of r
 context_of (Tail r step) = registers_of r
@@ -36,10 +37,12 @@ no_life = record { wait = None; leaving = None }
 unfoldable pub lives_of : Lives → ℕ → Life
 lives_of table = numbered no_life table.lives
 
+-- a thread is in its exit where a value of it is kept (POSIX.1 pthread_exit)
 abbrev pub phase_of : Option ℕ → Phase
 phase_of None = Normal
 phase_of (Some value) = Leaving value
 
+-- a thread has ended where its value is kept, and else waits where a wait is, and else is ready (POSIX.1 thread states)
 abbrev pub standing_of : Option ℕ → Option Wait → Standing
 standing_of (Some value) wait = Ended value
 standing_of None (Some wait) = Waits wait
@@ -57,10 +60,12 @@ thread_by row life registers = record {
   standing = standing_of row.ended life.wait;
 }
 
+-- a number's record: none is there where no row is kept
 abbrev pub thread_of : Option Row → Life → Registers → Thread
 thread_of None life registers = no_thread
 thread_of (Some row) life registers = thread_by row life registers
 
+-- all numbers' records
 abbrev pub threads_of : (ℕ → Option Row) → (ℕ → Life) → (ℕ → Registers) → ℕ → Thread
 threads_of rows lives contexts t = thread_of (rows t) (lives t) (contexts t)
 

@@ -51,6 +51,7 @@ with_output c count report = if count == 0 then report else record report { out_
 abbrev pub most_written : ℕ
 most_written = 65536
 
+-- the first bytes of a buffer are written, and the answer is their count (POSIX.1 write)
 abbrev pub written : State → ℕ → Arguments → ℕ → Called
 written s t c count = values (record { state = s; report = with_output c count (begun s).report }) t 0 count
 

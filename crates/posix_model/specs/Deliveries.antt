@@ -21,10 +21,12 @@ pub record Delivery : Type 0 where
   pub thread : ℕ
   pub signal : ℕ
 
+-- the delivery of a signal to a thread, where there is one
 abbrev pub delivery_to : ℕ → Option ℕ → Option Delivery
 delivery_to t None = None
 delivery_to t (Some sig) = Some (record { thread = t; signal = sig })
 
+-- the delivery to a thread of its lowest signal, where there is one
 abbrev pub delivery_of : State → Option ℕ → Option Delivery
 delivery_of s None = None
 delivery_of s (Some t) = delivery_to t (lowest_pending s t)

@@ -25,6 +25,7 @@ use Rattle.posix_model.specs.declared.Wait.TheVariants.{Join}
 abbrev pub chain_own : ℕ → ℕ
 chain_own = put (put (put (put (put (λ t. 0) 1 20) 2 5) 3 8) 4 3) 5 12
 
+-- a chain of waits
 abbrev pub chain_edge : ℕ → Option ℕ
 chain_edge = put (put (put (λ t. None) 1 (Some 2)) 2 (Some 3)) 3 (Some 4)
 
@@ -38,6 +39,7 @@ Chain =
 abbrev pub circle_own : ℕ → ℕ
 circle_own = put (put (put (λ t. 0) 2 8) 3 10) 4 20
 
+-- a circle of waits, and perhaps one more into it
 abbrev pub circle_edge : Option ℕ → ℕ → Option ℕ
 circle_edge third = put (put (put (λ t. None) 2 (Some 3)) 3 (Some 2)) 4 third
 
@@ -68,15 +70,19 @@ six_threads = record {
   over = None;
 }
 
+-- four arguments
 abbrev pub with_arguments : ℕ → ℕ → ℕ → ℕ → Arguments
 with_arguments a b d e = record { a = a; b = b; d = d; e = e }
 
+-- the reply to a call
 abbrev pub reply_of : Called → Reply
 reply_of called = called.reply
 
+-- the ready list after a call
 abbrev pub ready_after : Called → List ℕ
 ready_after called = called.made.state.ready
 
+-- what a thread is doing after a call
 abbrev pub standing_after : Called → ℕ → Standing
 standing_after called t = (called.made.state.threads t).standing
 

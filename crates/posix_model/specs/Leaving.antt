@@ -48,6 +48,7 @@ with_end report dropped value = record report { gone = true; gone_value = value;
 abbrev pub ended : Made → ℕ → Thread → (ℕ → ℕ) → ℕ → Made
 ended g t left dropped value = record { state = over_with_last (without_thread g.state t left); report = with_end g.report dropped value }
 
+-- the end of a thread with a value, by who waits for it (POSIX.1 pthread_join)
 abbrev pub end_with : State → ℕ → ℕ → Option ℕ → Made
 end_with s t value who = ended (answer_joiner (begun s) value who) t (left_at (s.threads t) value who) (s.pending t) value
 

@@ -21,6 +21,7 @@ number n = 32 ∷ decimal n
 abbrev pub line : List ℕ → List ℕ → List ℕ
 line word numbers = word ++ flat_map number numbers ++ 10 ∷ []
 
+-- a reply: two numbers, or a word
 abbrev pub reply_text : Reply → List ℕ
 reply_text (Values error value) = number error ++ number value
 reply_text Block = codes " block"
@@ -29,6 +30,7 @@ reply_text CancelReply = codes " cancel"
 reply_text Enter = codes " enter"
 reply_text End = codes " end"
 
+-- a special return's word
 abbrev pub special_text : Special → List ℕ
 special_text Handler = codes " handler"
 special_text Cleanup = codes " cleanup"
@@ -61,9 +63,11 @@ alarm_line r = if r.alarm then codes "alarm\n" else []
 abbrev pub hex_digit : ℕ → ℕ
 hex_digit n = if nat_lt n 10 then 48 + n else 87 + n
 
+-- two digits of a byte
 abbrev pub hex_byte : ℕ → List ℕ
 hex_byte b = hex_digit (b / 16) ∷ hex_digit (b % 16) ∷ []
 
+-- two digits of each byte
 abbrev pub hex : List ℕ → List ℕ
 hex bytes = flat_map hex_byte bytes
 

@@ -8,6 +8,7 @@ use Rattle.posix_model.specs.Lines.{lines, run_line, end_lines, sig_numbers}
 use Rattle.posix_model.specs.declared.Move.{Move}
 use Rattle.posix_model.specs.declared.Ending.{Ending}
 
+-- a thread made the last instruction
 abbrev pub is_last : ℕ → Option ℕ → Bool
 is_last t None = false
 is_last t (Some u) = u == t

@@ -2,3 +2,4 @@ pub mod Numbers
 pub mod Maps
 pub mod Orders
 pub mod Priority
+pub mod Holders

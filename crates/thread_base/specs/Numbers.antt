@@ -18,6 +18,7 @@ IsPrio n = n ≤ 31
 abbrev pub is_in_scope : ℕ → Bool
 is_in_scope n = nat_le 1 n && (nat_le n 31 && (nat_lt n 18 || nat_lt 22 n))
 
+-- a number is that of a signal in scope (POSIX.1 signals, the numbers of Linux)
 abbrev pub IsInScope : ℕ → Type 0
 IsInScope n = IsTrue (is_in_scope n)
 

@@ -5,6 +5,9 @@ ghost use Rattle.std.specs.Prelude.{◌≡◌, ◌<◌, ◌≤◌, ◌+◌, ◌&
 ghost use Rattle.thread_base.specs.Numbers.{IsTid, IsPrio, IsInScope, IsCall, IsPolicy, can_block, has_signal, set_of, policy_of, code_of};
 ghost use Rattle.thread_base.specs.Priority.{EffectiveIsGreatest};
 
+mod mutex;
+
+pub use mutex::{Holder, Kind, Protocol};
 use std::marker::Model;
 
 /// Memory ran out: the one answer for want of memory.

@@ -11,8 +11,8 @@ ghost use Rattle.thread_table.specs.Rows.{rows, free_number, put_found, is_live,
 
 use thread_base::{Policy, Prio, Tid};
 
-/// What is kept of a thread: its base priority and policy, the quantum that it has used up, in instructions,
-/// whether it is detached, who joins it, and the value that it ended with, if it has ended (POSIX.1 threads).
+/// What is kept of a thread: its base priority and policy, the ticks of its turn that it has used, whether it
+/// is detached, who joins it, and the value that it ended with, if it has ended (POSIX.1 threads).
 #[derive(Clone, Copy, Debug, PartialEq, Eq)]
 pub struct Row {
     pub base: Prio,
