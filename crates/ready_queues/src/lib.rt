@@ -1,7 +1,6 @@
 //! The ready list: the threads that can run, in order, and the choice among them.
 #![tactic(auto)]
 
-mod list;
 mod plain;
 #[cfg(test)]
 mod tests;

@@ -1,19 +1,18 @@
-ghost use Rattle.std.specs.Prelude.{◌≡◌, ◌++◌, ◌<◌, [], ◌∷◌, IfOk};
-ghost use Rattle.thread_base.specs.Maps.{put, numbered};
-ghost use Rattle.thread_base.proofs.PriorityLemmas.{better as better_of};
+ghost use Rattle.std.specs.Prelude.{◌≡◌, ◌<◌, [], IfOk};
+ghost use Rattle.thread_base.specs.Maps.{put};
 ghost use Rattle.ready_queues.specs.Queue.{level_of};
 
 use crate::Ready;
-use crate::list::TidList;
 use std::alloc::Global;
 use std::marker::Model;
 use thread_base::{NoMemory, Prio, Tid};
+use tid_list::TidList;
 
 /// The ready list as one plain list, which `chosen` looks through. Its memory is taken when it is made.
 #[derive(Drop)]
 pub struct PlainReady {
     list: TidList,
-    levels: [Prio; 64],
+    levels: [u8; 64],
 }
 
 impl Model for PlainReady {
@@ -31,7 +30,7 @@ impl PlainReady {
     {
         Ok(PlainReady {
             list: TidList::new(alloc)?,
-            levels: [Prio::new(0).unwrap(); 64],
+            levels: [0; 64],
         })
     }
 }
@@ -43,7 +42,7 @@ impl Ready for PlainReady {
     ghost prio = { level_of };
 
     fn append(&mut self, t: Tid, p: Prio) {
-        self.levels[t.index()] = p;
+        self.levels[t.index()] = p.number() as u8;
         self.list.push(t);
     }
 
@@ -57,34 +56,14 @@ impl Ready for PlainReady {
     }
 
     fn reprio(&mut self, t: Tid, p: Prio) {
-        self.levels[t.index()] = p;
+        self.levels[t.index()] = p.number() as u8;
     }
 
     fn has(&self, t: Tid) -> bool {
-        self.list.threads().contains(&t)
+        self.list.has(t)
     }
 
     fn chosen(&self) -> Option<Tid> {
-        let mut best = None;
-        for t in self.list.threads() {
-            best = Some(better(&self.levels, best, *t));
-        }
-        best
-    }
-}
-
-/// Of the best thread so far and one behind it, that of the greater level; the earlier of equals.
-fn better(levels: &[Prio; 64], best: Option<Tid>, t: Tid) -> Tid
-    ensures { Some result ≡ better_of (numbered 0 levels.now) best t }
-{
-    match best {
-        None => t,
-        Some(b) => {
-            if levels[b.index()].number() < levels[t.index()].number() {
-                t
-            } else {
-                b
-            }
-        }
+        self.list.best(&self.levels)
     }
 }
