@@ -8,6 +8,7 @@ use Rattle.posix_model.specs.Calls.{table_row, call_row}
 use Rattle.posix_model.specs.Reports.{nothing_told}
 use Rattle.posix_model.specs.Lines.{lines, head_line, alarm_line, out_line, took_line, count_lines, sig_numbers, gone_line, done_line, done_lines, run_line, end_line, end_lines}
 use Rattle.posix_model.specs.Examples as examples
+use Rattle.posix_model.specs.MutexExamples as mutexes
 
 pub chain : examples.Chain
 unfolding put tids leads effective
@@ -56,3 +57,35 @@ not_built = (refl, refl, refl, refl)
 pub trace_lines : examples.Lines
 unfolding digits lines head_line alarm_line out_line took_line count_lines sig_numbers gone_line done_line done_lines run_line end_line end_lines nothing_told tids
 trace_lines = (refl, refl, refl, refl, refl)
+
+pub locks : mutexes.Locks
+unfolding put
+locks = (refl, refl, refl, refl, refl, refl, refl, refl, refl, refl, refl, refl)
+
+pub lock_refusals : mutexes.LockRefusals
+unfolding put
+lock_refusals = (refl, refl, refl)
+
+pub counts : mutexes.Counts
+unfolding put tids leads effective eff
+counts = (refl, refl, refl, refl, refl, refl, refl, refl, refl)
+
+pub trylocks : mutexes.Trylocks
+unfolding put
+trylocks = (refl, refl, refl, refl, refl, refl, refl, refl, refl)
+
+pub hands_over : mutexes.HandsOver
+unfolding put tids leads effective eff chosen nothing_told
+hands_over = (refl, refl, refl, refl, refl, refl, refl, refl, refl, refl, refl, refl)
+
+pub inits : mutexes.Inits
+unfolding put
+inits = (refl, refl, refl, refl, refl, refl, refl, refl, refl, refl)
+
+pub destroys : mutexes.Destroys
+unfolding put
+destroys = (refl, refl, refl, refl, refl)
+
+pub orphans : mutexes.Orphans
+unfolding put tids leads effective eff chosen
+orphans = (refl, refl, refl, refl, refl, refl, refl, refl, refl, refl)

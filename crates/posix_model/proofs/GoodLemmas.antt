@@ -1,59 +1,25 @@
 -- Each change of which moves are made keeps a good state good.
-use Rattle.std.proofs.Common.{◌≡◌, ◌≢◌, ◌∙◌, ap, sym, refl, subst, inl, inr, ◌⊎◌, ℕ, Bool, true, false, eqb, List, [], ◌∷◌, ◌++◌, None}
+use Rattle.std.proofs.Common.{◌≡◌, ◌≢◌, ◌∙◌, ap, sym, refl, subst, inl, inr, ◌⊎◌, ℕ, true, false, eqb, List, [], ◌∷◌, ◌++◌, Option, None}
 use Rattle.std.proofs.lemmas.Bool.{cases_eq, eqb-true}
 use Rattle.thread_base.specs.Maps.{put}
 use Rattle.thread_base.specs.Numbers.{IsTid}
 use Rattle.thread_base.specs.Orders.{is_in, without, IsOrder}
 use Rattle.thread_base.specs.Priority.{tids}
-use Rattle.thread_base.proofs.MapLemmas.{put_same, put_other}
 use Rattle.thread_base.proofs.OrderLemmas.{IsOrder-push, IsOrder-filter, not_in-without, within, is_in-without, is_in-push, is_in-pushed, is_in-to_end}
 use Rattle.thread_base.proofs.SearchLemmas.{in_tids, find_none, any_none}
-use Rattle.posix_model.specs.State.{State, Thread, Standing, Absent, Ready, Waits, Ended, is_absent, is_ready, is_live, joins}
+use Rattle.posix_model.specs.State.{State, Thread, Mutex, Ready, Waits, is_absent, is_ready, is_live, joins, wants}
 use Rattle.posix_model.specs.Changes.{Made, set_thread, append, to_end, await, reply, with_reply, answer}
 use Rattle.posix_model.specs.Threads.{joiner, has_joiner}
-use Rattle.posix_model.specs.Good.{IsGood, MayJoin}
+use Rattle.posix_model.specs.Mutexes.{holder_in, waiters_in, orphaned}
+use Rattle.posix_model.specs.Good.{IsGood, MayJoin, IsSoundMutex}
 use Rattle.posix_model.specs.declared.Wait.TheVariants.{Join}
+use Rattle.posix_model.proofs.StandingLemmas.{never, ready_live, ready_joins, ready_wants, joins_waits, joins_wants, dead_wants, at_same, at_other, kept}
+use Rattle.posix_model.proofs.MutexLemmas.{with_thread, sound_alike, sound_with, sound_orphaned}
 
--- what a standing says of the other tests
-ready_live : (st : Standing) → is_ready st ≡ true → (is_absent st ≡ false) × (is_live st ≡ true)
-ready_live Absent h = let e : false ≡ true = h in cc
-ready_live Ready h = (refl, refl)
-ready_live (Waits wait) h = let e : false ≡ true = h in cc
-ready_live (Ended value) h = let e : false ≡ true = h in cc
-
-pub ready_joins : (u : ℕ) (st : Standing) → is_ready st ≡ true → joins u st ≡ false
-ready_joins u Absent h = refl
-ready_joins u Ready h = refl
-ready_joins u (Waits wait) h = let e : false ≡ true = h in cc
-ready_joins u (Ended value) h = refl
-
-pub joins_waits : (u : ℕ) (st : Standing) → joins u st ≡ true → (is_ready st ≡ false) × (is_absent st ≡ false) × (is_live st ≡ true)
-joins_waits u Absent h = absurd (let e : false ≡ true = h in cc)
-joins_waits u Ready h = absurd (let e : false ≡ true = h in cc)
-joins_waits u (Waits wait) h = (refl, refl, refl)
-joins_waits u (Ended value) h = absurd (let e : false ≡ true = h in cc)
-
-never : (b : Bool) → b ≡ true → b ≡ false → ⊥
-never b h k = let e : true ≡ false = sym h ∙ k in absurd (let f : true ≡ false = e in cc)
-
--- what a map gives after a change
-pub at_same : {A : Type 0} (f : Thread → A) (m : ℕ → Thread) (t u : ℕ) (thread : Thread) → u ≡ t → f (put m t thread u) ≡ f thread
-at_same f m t u thread e = ap (λ v. f (put m t thread v)) e ∙ ap f (put_same m t thread)
-
-pub at_other : {A : Type 0} (f : Thread → A) (m : ℕ → Thread) (t u : ℕ) (thread : Thread) → u ≢ t → f (put m t thread u) ≡ f (m u)
-at_other f m t u thread ne = ap f (put_other m t thread u ne)
-
-kept : {A : Type 0} (f : Thread → A) (m : ℕ → Thread) (t u : ℕ) (thread : Thread) → f thread ≡ f (m t) → f (put m t thread u) ≡ f (m u)
-kept f m t u thread e =
-    elim (cases_eq u t) [
-      | inl same ↦ at_same f m t u thread same ∙ e ∙ ap (λ v. f (m v)) (sym same)
-      | inr other ↦ at_other f m t u thread other
-    ]
-
--- states that agree on the ready list and on each thread's standing and detachment are good together
-pub good_alike : (s r : State) → r.ready ≡ s.ready → ((u : ℕ) → (r.threads u).standing ≡ (s.threads u).standing)
+-- states that agree on the ready list, the mutexes and each thread's standing and detachment are good together
+pub good_alike : (s r : State) → r.ready ≡ s.ready → r.mutexes ≡ s.mutexes → ((u : ℕ) → (r.threads u).standing ≡ (s.threads u).standing)
     → ((u : ℕ) → (r.threads u).detached ≡ (s.threads u).detached) → IsGood s → IsGood r
-good_alike s r ready standing detached good = record {
+good_alike s r ready mutexes standing detached good = record {
   order = subst IsOrder (sym ready) good.order;
   listed = λ t. ap (is_in t) ready ∙ good.listed t ∙ ap is_ready (sym (standing t));
   within = λ t h. good.within t (ap is_absent (sym (standing t)) ∙ h);
@@ -64,13 +30,19 @@ good_alike s r ready standing detached good = record {
         joinable = detached u ∙ may.joinable;
         alone = λ v k. may.alone v (ap (joins u) (sym (standing v)) ∙ k);
       });
+  sound = λ m.
+      sound_alike s r m
+      (ap (λ (f : ℕ → Option Mutex). holder_in (f m)) mutexes) (ap (λ (f : ℕ → Option Mutex). waiters_in (f m)) mutexes)
+      (λ u. ap (wants m) (standing u))
+      (λ u h live. ap is_live (standing u) ∙ live)
+      (good.sound m);
 }
 
 -- a thread's record changes, but for its standing and its detachment
 pub good_set : (s : State) (t : ℕ) (thread : Thread) → thread.standing ≡ (s.threads t).standing → thread.detached ≡ (s.threads t).detached
     → IsGood s → IsGood (set_thread s t thread)
 good_set s t thread standing detached good =
-    good_alike s (set_thread s t thread) refl
+    good_alike s (set_thread s t thread) refl refl
     (λ u. kept (λ (x : Thread). x.standing) s.threads t u thread standing)
     (λ u. kept (λ (x : Thread). x.detached) s.threads t u thread detached)
     good
@@ -78,17 +50,12 @@ good_set s t thread standing detached good =
 pub good_reply : (s : State) (t error value : ℕ) → IsGood s → IsGood (reply s t error value)
 good_reply s t error value good = good_set s t (with_reply (s.threads t) error value) refl refl good
 
--- a thread's record and the ready list change, and the thread waits for no end
-abbrev pub with_thread : State → ℕ → Thread → List ℕ → State
-with_thread s t thread ready = record s { threads = put s.threads t thread; ready = ready }
-
-module _ (s : State) (t : ℕ) (thread : Thread) (ready : List ℕ) (good : IsGood s) (order : IsOrder ready)
+-- a thread's record, the ready list and the mutexes change, and the thread waits for no end
+module _ (s : State) (t : ℕ) (thread : Thread) (ready : List ℕ) (mutexes : ℕ → Option Mutex) (good : IsGood s) (order : IsOrder ready)
     (others : (u : ℕ) → u ≢ t → is_in u ready ≡ is_in u s.ready) (mine : is_in t ready ≡ is_ready thread.standing)
     (inside : is_absent thread.standing ≡ false → IsTid t) (idle : (u : ℕ) → joins u thread.standing ≡ false)
-    (open_to : (v : ℕ) → v ≢ t → joins t (s.threads v).standing ≡ true → (is_live thread.standing ≡ true) × (thread.detached ≡ false)) where
-  new : State
-  new = with_thread s t thread ready
-
+    (open_to : (v : ℕ) → v ≢ t → joins t (s.threads v).standing ≡ true → (is_live thread.standing ≡ true) × (thread.detached ≡ false))
+    (sound : (m : ℕ) → IsSoundMutex (with_thread s t thread ready mutexes) m) where
   listed_after : (u : ℕ) → is_in u ready ≡ is_ready (put s.threads t thread u).standing
   listed_after u =
       elim (cases_eq u t) [
@@ -127,7 +94,7 @@ module _ (s : State) (t : ℕ) (thread : Thread) (ready : List ℕ) (good : IsGo
             ))
       ]
 
-  pub good_with : IsGood (with_thread s t thread ready)
+  pub good_with : IsGood (with_thread s t thread ready mutexes)
   good_with = record {
     order = order;
     listed = listed_after;
@@ -140,6 +107,7 @@ module _ (s : State) (t : ℕ) (thread : Thread) (ready : List ℕ) (good : IsGo
           joinable = may.1;
           alone = λ w k. (let also = before w u k in (good.joining v u was.1).alone w also.1);
         });
+    sound = sound;
   }
 
 -- a ready thread goes to the end of the list
@@ -147,43 +115,51 @@ pub good_to_end : (s : State) (t : ℕ) → IsGood s → is_ready (s.threads t).
 good_to_end s t good h =
     let here = good.listed t ∙ h in
     let range = within s.ready t good.order here in
-    good_with s t (record (s.threads t) { used = 0 }) (without t s.ready ++ t ∷ []) good
+    good_with s t (record (s.threads t) { used = 0 }) (without t s.ready ++ t ∷ []) s.mutexes good
     (IsOrder-push (without t s.ready) t (IsOrder-filter _ s.ready good.order) range.0 range.1 (not_in-without t s.ready))
     (λ u ne. is_in-to_end t u s.ready here)
     (is_in-pushed t (without t s.ready) ∙ sym h)
     (λ e. range)
     (λ u. ready_joins u (s.threads t).standing h)
     (λ v ne j. (let may = good.joining v t j in (may.live, may.joinable)))
+    (sound_with s t (record (s.threads t) { used = 0 }) (without t s.ready ++ t ∷ []) good (λ m. refl) (λ m k. (ready_live (s.threads t).standing h).1))
 
--- a thread that was not ready becomes ready
-pub good_append : (s : State) (t : ℕ) (thread : Thread) → IsGood s → is_ready (s.threads t).standing ≡ false → IsTid t
+-- a thread that was not ready and waited for no mutex becomes ready
+pub good_append : (s : State) (t : ℕ) (thread : Thread) → IsGood s → is_ready (s.threads t).standing ≡ false → ((m : ℕ) → wants m (s.threads t).standing ≡ false) → IsTid t
     → ((v : ℕ) → joins t (s.threads v).standing ≡ true → thread.detached ≡ false) → IsGood (append s t thread)
-good_append s t thread good h range open_to =
+good_append s t thread good h wanted range open_to =
     let away = good.listed t ∙ h in
-    good_with s t (record thread { standing = Ready; used = 0 }) (s.ready ++ t ∷ []) good
+    good_with s t (record thread { standing = Ready; used = 0 }) (s.ready ++ t ∷ []) s.mutexes good
     (IsOrder-push s.ready t good.order range.0 range.1 away)
     (λ u ne. is_in-push t u s.ready ne)
     (is_in-pushed t s.ready)
     (λ e. range)
     (λ u. refl)
     (λ v ne j. (refl, open_to v j))
+    (sound_with s t (record thread { standing = Ready; used = 0 }) (s.ready ++ t ∷ []) good (λ m. sym (wanted m)) (λ m k. refl))
 
--- a thread that nobody joins is gone, or has ended, or is there no more
-pub good_gone : (s : State) (t : ℕ) (thread : Thread) → IsGood s → is_ready thread.standing ≡ false → ((u : ℕ) → joins u thread.standing ≡ false)
-    → (is_absent thread.standing ≡ false → IsTid t) → ((v : ℕ) → joins t (s.threads v).standing ≡ true → ⊥) → IsGood (with_thread s t thread (without t s.ready))
-good_gone s t thread good away idle inside nobody =
-    good_with s t thread (without t s.ready) good
+-- a thread that nobody joins and that waits for no mutex is gone, or has ended, or is there no more
+pub good_gone : (s : State) (t : ℕ) (thread : Thread) → IsGood s → is_live thread.standing ≡ false → is_ready thread.standing ≡ false → ((u : ℕ) → joins u thread.standing ≡ false)
+    → (is_absent thread.standing ≡ false → IsTid t) → ((m : ℕ) → wants m (s.threads t).standing ≡ false) → ((v : ℕ) → joins t (s.threads v).standing ≡ true → ⊥)
+    → IsGood (with_thread s t thread (without t s.ready) (orphaned t s.mutexes))
+good_gone s t thread good dead away idle inside wanted nobody =
+    good_with s t thread (without t s.ready) (orphaned t s.mutexes) good
     (IsOrder-filter _ s.ready good.order)
     (λ u ne. is_in-without t u s.ready ne)
     (not_in-without t s.ready ∙ sym away)
     inside idle
     (λ v ne j. absurd (nobody v j))
+    (sound_orphaned s t thread (without t s.ready) good (λ m. dead_wants m thread.standing dead) wanted)
 
--- a thread's record changes and nobody joins it, and its readiness stays
-pub good_unjoined : (s : State) (t : ℕ) (thread : Thread) → IsGood s → is_ready thread.standing ≡ is_ready (s.threads t).standing → ((u : ℕ) → joins u thread.standing ≡ false)
+-- the record of a thread that has ended changes, which is not live then, and nobody joins it
+pub good_unjoined : (s : State) (t : ℕ) (thread : Thread) → IsGood s → is_live (s.threads t).standing ≡ false → is_live thread.standing ≡ false → is_ready thread.standing ≡ is_ready (s.threads t).standing
+    → ((u : ℕ) → joins u thread.standing ≡ false)
     → (is_absent thread.standing ≡ false → IsTid t) → ((v : ℕ) → joins t (s.threads v).standing ≡ true → ⊥) → IsGood (set_thread s t thread)
-good_unjoined s t thread good same idle inside nobody =
-    good_with s t thread s.ready good good.order (λ u ne. refl) (good.listed t ∙ sym same) inside idle (λ v ne j. absurd (nobody v j))
+good_unjoined s t thread good was dead same idle inside nobody =
+    good_with s t thread s.ready s.mutexes good good.order (λ u ne. refl) (good.listed t ∙ sym same) inside idle (λ v ne j. absurd (nobody v j))
+    (sound_with s t thread s.ready good
+    (λ m. dead_wants m thread.standing dead ∙ sym (dead_wants m (s.threads t).standing was))
+    (λ m h. absurd (never (is_live (s.threads t).standing) ((good.sound m).owned t h).live was)))
 
 -- a test of equal numbers
 meets : (a b : ℕ) → eqb a b ≡ true → a ≡ b
@@ -243,6 +219,7 @@ module _ (s : State) (t u : ℕ) (good : IsGood s) (ready : is_ready (s.threads 
     ];
     within = λ v h. good.within v (sym (kept (λ (x : Thread). is_absent x.standing) s.threads t v waiting (sym (ready_live (s.threads t).standing ready).0)) ∙ h);
     joining = λ v w h. may_join v w (either v w h);
+    sound = sound_with s t waiting (without t s.ready) good (λ m. sym (ready_wants m (s.threads t).standing ready)) (λ m h. refl);
   }
 
 -- where no thread is found that joins, none joins
@@ -266,7 +243,7 @@ unjoined s u good dead v h = never (is_live (s.threads u).standing) (good.joinin
 pub good_answer : (g : Made) (u t error value : ℕ) → IsGood g.state → joins t (g.state.threads u).standing ≡ true → IsGood (answer g u error value).state
 good_answer g u t error value good h =
     let waits = joins_waits t (g.state.threads u).standing h in
-    good_append g.state u (with_reply (g.state.threads u) error value) good waits.0 (good.within u waits.1)
+    good_append g.state u (with_reply (g.state.threads u) error value) good waits.0 (λ m. joins_wants t m (g.state.threads u).standing h) (good.within u waits.1)
     (λ v j. (good.joining v u j).joinable)
 
 -- a thread that nobody joins is detached
@@ -299,4 +276,5 @@ module _ (s : State) (u : ℕ) (good : IsGood s) (nobody : (v : ℕ) → joins u
           joinable = still_joinable v w was;
           alone = λ x k. may.alone x (ap (joins w) (sym (same_standing x)) ∙ k);
         });
+    sound = sound_with s u loose s.ready good (λ m. refl) (λ m h. ((good.sound m).owned u h).live);
   }

@@ -1,7 +1,11 @@
 pub mod DeliveryLemmas
 pub mod TraceLemmas
 pub mod RunLaws
+pub mod StandingLemmas
+pub mod MutexLemmas
 pub mod GoodLemmas
+pub mod GoodReplies
+pub mod GoodMutexes
 pub mod GoodMoves
 pub mod PriorityLaws
 pub mod Computed

@@ -1,47 +1,19 @@
 -- The calls: of each its refusals in order, then its effect, then its reply.
-use Rattle.std.specs.Prelude.{ℕ, ◌%◌, ◌==◌, ◌||◌, Bool, true, not, if◌then◌else◌, List, [], ◌∷◌, Option, Some, None, length, min, slice_index}
-use Rattle.thread_base.specs.Numbers.{code_of}
-use Rattle.thread_base.specs.declared.Errno.{Errno}
+use Rattle.std.specs.Prelude.{ℕ, ◌%◌, ◌==◌, ◌||◌, Bool, true, not, if◌then◌else◌, [], ◌∷◌, Option, Some, None, length, min}
 use Rattle.thread_base.specs.declared.Errno.TheVariants.{ESRCH, EBADF, EAGAIN, EFAULT, EINVAL, EDEADLK, ENOSYS}
 use Rattle.rv_exec.specs.Window.{fits}
-use Rattle.posix_model.specs.State.{State, Registers, Standing, Absent, Ready, Waits, Ended, no_thread}
-use Rattle.posix_model.specs.Changes.{Made, begun, reply, set_thread, append, to_end, await}
+use Rattle.posix_model.specs.State.{State, Standing, Absent, Ready, Waits, Ended, no_thread}
+use Rattle.posix_model.specs.Changes.{Made, begun, set_thread, append, to_end}
 use Rattle.posix_model.specs.Threads.{exists, free_number, has_joiner, are_attributes, new_thread}
 use Rattle.posix_model.specs.Leaving.{start_exit}
+pub use Rattle.posix_model.specs.Replies.{Called, arguments, call_number, values, refused, refusing, blocked}
+use Rattle.posix_model.specs.MutexCalls.{mutex_row}
 use Rattle.posix_model.specs.declared.Arguments.{Arguments}
 use Rattle.posix_model.specs.declared.Report.{Report}
-use Rattle.posix_model.specs.declared.Reply.{Reply}
-use Rattle.posix_model.specs.declared.Reply.TheVariants.{Values, Block, Exit as Exits, End}
-use Rattle.posix_model.specs.declared.Wait.{Wait}
+use Rattle.posix_model.specs.declared.Reply.TheVariants.{Exit as Exits, End}
 use Rattle.posix_model.specs.declared.Wait.TheVariants.{Join}
 use Rattle.posix_model.specs.declared.Head.TheVariants.{Call}
 use Rattle.posix_model.specs.declared.Ending.TheVariants.{Exit}
-
--- the arguments of a call, which stand in a0 to a3
-abbrev pub arguments : Registers → Arguments
-arguments r = record { a = slice_index r.x 10; b = slice_index r.x 11; d = slice_index r.x 12; e = slice_index r.x 13 }
-
--- the number of a call, which stands in a7
-abbrev pub call_number : Registers → ℕ
-call_number r = slice_index r.x 17
-
--- a call made, and its reply
-pub record Called : Type 0 where
-  pub made : Made
-  pub reply : Reply
-
--- the caller is answered an error number and a value, and goes on
-abbrev pub values : Made → ℕ → ℕ → ℕ → Called
-values g t error value = record { made = record g { state = reply g.state t error value }; reply = Values error value }
-
--- a refusal changes nothing but the answer
-abbrev pub refused : State → ℕ → Errno → Called
-refused s t error = values (begun s) t (code_of error) 0
-
--- the first refusal that holds, and else the effect
-abbrev pub refusing : State → ℕ → List (Bool × Errno) → Called → Called
-refusing s t [] effect = effect
-refusing s t (refusal ∷ refusals) effect = if refusal.0 then refused s t refusal.1 else refusing s t refusals effect
 
 -- so many bytes of a buffer were written to a descriptor, where there are any
 abbrev pub with_output : Arguments → ℕ → Report → Report
@@ -66,10 +38,6 @@ write s t c =
 -- 93: exit(value), of the whole process (this project's own)
 abbrev pub exit : State → ℕ → Arguments → Called
 exit s t c = record { made = begun (record s { over = Some (Exit (c.a % 256)) }); reply = End }
-
--- the caller waits
-abbrev pub blocked : State → ℕ → Wait → Called
-blocked s t wait = record { made = begun (await s t wait); reply = Block }
 
 -- a routine, a stack or attributes with which no thread can be made
 abbrev pub cannot_start : Arguments → Bool
@@ -142,7 +110,7 @@ table_row s t number c =
     else if number == 259 then detach s t c
     else if number == 260 then self_number s t
     else if number == 261 then yield s t
-    else refused s t ENOSYS
+    else mutex_row s t number c
 
 -- the row of a call's number; a call that is not built answers ENOSYS
 unfoldable pub call_row : (ℕ → Bool) → State → ℕ → ℕ → Arguments → Called

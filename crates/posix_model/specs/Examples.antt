@@ -3,7 +3,7 @@ use Rattle.std.specs.Prelude.{ℕ, ◌≡◌, ◌==◌, true, false, List, [], �
 use Rattle.thread_base.specs.Maps.{put}
 use Rattle.thread_base.specs.Priority.{effective, first_greatest}
 use Rattle.rv_exec.specs.declared.Special.TheVariants.{Cleanup}
-use Rattle.posix_model.specs.State.{State, Thread, Standing, Absent, Ready, Waits, Ended, Leaving, no_thread, none_pending}
+use Rattle.posix_model.specs.State.{State, Thread, Standing, Absent, Ready, Waits, Ended, Leaving, no_thread, none_pending, no_mutexes}
 use Rattle.posix_model.specs.Built.{Built}
 use Rattle.posix_model.specs.Scheduling.{chosen}
 use Rattle.posix_model.specs.Threads.{first_registers}
@@ -65,6 +65,7 @@ six_threads = record {
       put (put (put (put (put (put (λ t. no_thread) 1 (thread_with Ready)) 2 (thread_with Ready)) 3 (thread_with (Ended 7)))
       4 (thread_with (Waits (Join 2)))) 5 (record (thread_with Ready) { detached = true })) 6 (thread_with Ready);
   ready = 1 ∷ 2 ∷ 5 ∷ 6 ∷ [];
+  mutexes = no_mutexes;
   pending = none_pending;
   memory = [];
   over = None;

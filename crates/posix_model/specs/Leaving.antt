@@ -5,6 +5,7 @@ use Rattle.thread_base.specs.Orders.{without}
 use Rattle.posix_model.specs.State.{State, Thread, Leaving, Ended, no_thread}
 use Rattle.posix_model.specs.Changes.{Made, begun, set_thread, answer}
 use Rattle.posix_model.specs.Threads.{joiner, some_live}
+use Rattle.posix_model.specs.Mutexes.{orphaned}
 use Rattle.posix_model.specs.Lines.{sig_numbers}
 use Rattle.posix_model.specs.declared.Report.{Report}
 use Rattle.posix_model.specs.declared.Ending.TheVariants.{Exit}
@@ -28,11 +29,12 @@ abbrev pub left_at : Thread → ℕ → Option ℕ → Thread
 left_at thread value None = if thread.detached then no_thread else record thread { standing = Ended value }
 left_at thread value (Some u) = no_thread
 
--- a thread is gone from the ready list, and what pends on it is dropped
+-- a thread is gone from the ready list, the mutexes that it has are orphans, and what pends on it is dropped
 abbrev pub without_thread : State → ℕ → Thread → State
 without_thread s t left = record s {
   threads = put s.threads t left;
   ready = without t s.ready;
+  mutexes = orphaned t s.mutexes;
   pending = put s.pending t (λ sig. 0);
 }
 

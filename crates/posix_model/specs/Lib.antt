@@ -5,7 +5,10 @@ pub mod Lines
 pub mod Scheduling
 pub mod Changes
 pub mod Threads
+pub mod Mutexes
 pub mod Leaving
+pub mod Replies
+pub mod MutexCalls
 pub mod Calls
 pub mod Deliveries
 pub mod Instructions
@@ -15,3 +18,4 @@ pub mod Start
 pub mod Good
 pub mod Laws
 pub mod Examples
+pub mod MutexExamples

@@ -7,7 +7,7 @@ use Rattle.posix_model.specs.State.{State}
 abbrev pub own : State → ℕ → ℕ
 own s t = (s.threads t).base
 
--- the thread to which a waiting thread lends its priority: no wait lends one yet
+-- the thread to which a waiting thread lends its priority: none, as no mutex that inherits can be made yet
 abbrev pub edge : State → ℕ → Option ℕ
 edge s t = None
 

@@ -1,10 +1,13 @@
 -- What the machine consists of.
-use Rattle.std.specs.Prelude.{ℕ, ◌==◌, Bool, true, false, List, replicate, Option}
+use Rattle.std.specs.Prelude.{ℕ, ◌==◌, Bool, true, false, List, replicate, Option, None}
 use Rattle.thread_base.specs.declared.Policy.{Policy}
 use Rattle.thread_base.specs.declared.Policy.TheVariants.{Other}
+use Rattle.thread_base.specs.declared.mutex.Holder.{Holder}
+use Rattle.thread_base.specs.declared.mutex.Kind.{Kind}
+use Rattle.thread_base.specs.declared.mutex.Protocol.{Protocol}
 use Rattle.posix_model.specs.declared.Ending.{Ending}
 use Rattle.posix_model.specs.declared.Wait.{Wait}
-use Rattle.posix_model.specs.declared.Wait.TheVariants.{Join}
+use Rattle.posix_model.specs.declared.Wait.TheVariants.{Join, Mutex as OfMutex}
 
 -- the program counter, and x0 to x31 (RISC-V)
 pub record Registers : Type 0 where
@@ -33,10 +36,18 @@ pub record Thread : Type 0 where
   pub phase : Phase
   pub standing : Standing
 
+-- a mutex (POSIX.1 mutexes)
+pub record Mutex : Type 0 where
+  pub kind : Kind
+  pub protocol : Protocol
+  pub holder : Holder
+  pub waiters : List ℕ  -- in order of arrival
+
 -- the machine
 pub record State : Type 0 where
   pub threads : ℕ → Thread  -- by number
   pub ready : List ℕ  -- the ready list
+  pub mutexes : ℕ → Option Mutex  -- by number
   pub pending : ℕ → ℕ → ℕ  -- of a thread, of a signal: how many pend
   pub memory : List ℕ  -- the bytes of the window
   pub over : Option Ending
@@ -56,6 +67,10 @@ no_thread = record {
 -- no signal pends anywhere
 abbrev pub none_pending : ℕ → ℕ → ℕ
 none_pending t sig = 0
+
+-- there is no mutex
+abbrev pub no_mutexes : ℕ → Option Mutex
+no_mutexes m = None
 
 -- there is no thread
 abbrev pub is_absent : Standing → Bool
@@ -81,6 +96,12 @@ is_live (Ended value) = false
 -- a wait is for the end of a thread
 abbrev pub awaits_end : ℕ → Wait → Bool
 awaits_end t (Join u) = u == t
+awaits_end t (OfMutex m) = false
+
+-- a wait is for a mutex
+abbrev pub awaits_mutex : ℕ → Wait → Bool
+awaits_mutex m (Join u) = false
+awaits_mutex m (OfMutex k) = k == m
 
 -- a thread waits for the end of a thread (POSIX.1 pthread_join)
 abbrev pub joins : ℕ → Standing → Bool
@@ -88,3 +109,10 @@ joins t Absent = false
 joins t Ready = false
 joins t (Waits wait) = awaits_end t wait
 joins t (Ended value) = false
+
+-- a thread waits for a mutex (POSIX.1 pthread_mutex_lock)
+abbrev pub wants : ℕ → Standing → Bool
+wants m Absent = false
+wants m Ready = false
+wants m (Waits wait) = awaits_mutex m wait
+wants m (Ended value) = false

@@ -1,6 +1,7 @@
 //! Small cases of the definitions, each computed by the checker. The functions do nothing.
 
 ghost use Rattle.posix_model.specs.Examples as examples;
+ghost use Rattle.posix_model.specs.MutexExamples as mutexes;
 
 /// The last thread of a chain of waits runs with the priority of the first.
 pub fn chain()
@@ -60,4 +61,44 @@ pub fn not_built()
 /// The lines of a program in which a thread yields, is joined and ends.
 pub fn trace_lines()
     ensures { examples.Lines }
+{}
+
+/// A free mutex is taken, and behind another owner a thread waits, behind those that came before.
+pub fn locks()
+    ensures { mutexes.Locks }
+{}
+
+/// The refusals of lock: no mutex, an error-checking one of its own, a recursive one that is full.
+pub fn lock_refusals()
+    ensures { mutexes.LockRefusals }
+{}
+
+/// A recursive mutex is free after as many unlocks as locks, and only its owner unlocks it.
+pub fn counts()
+    ensures { mutexes.Counts }
+{}
+
+/// A trylock is refused where a lock waits.
+pub fn trylocks()
+    ensures { mutexes.Trylocks }
+{}
+
+/// An unlocked mutex goes to the waiter of greatest priority, the earliest of equals.
+pub fn hands_over()
+    ensures { mutexes.HandsOver }
+{}
+
+/// A mutex of each kind is made; which refusal comes first.
+pub fn inits()
+    ensures { mutexes.Inits }
+{}
+
+/// A mutex is destroyed only where it is free.
+pub fn destroys()
+    ensures { mutexes.Destroys }
+{}
+
+/// A mutex whose owner ended stays locked, and nobody gets it.
+pub fn orphans()
+    ensures { mutexes.Orphans }
 {}

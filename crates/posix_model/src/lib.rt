@@ -55,10 +55,11 @@ impl Reply {
     }
 }
 
-/// What a thread waits for: the end of a thread.
+/// What a thread waits for: the end of a thread, or a mutex, by its number.
 #[derive(Clone, Copy, Debug, PartialEq, Eq)]
 pub enum Wait {
     Join(Tid),
+    Mutex(u32),
 }
 
 impl Wait {
@@ -68,6 +69,7 @@ impl Wait {
     {
         match self {
             Wait::Join(u) => u.number() == t.number(),
+            Wait::Mutex(_) => false,
         }
     }
 }
@@ -242,6 +244,7 @@ mod tests {
         assert_eq!(rt; Reply::refusal(Errno::EDEADLK), Reply::Values(35, 0));
         assert!(rt; Wait::Join(Tid::at(1)).is_for_end_of(Tid::at(1)));
         assert!(rt; !Wait::Join(Tid::at(1)).is_for_end_of(Tid::at(2)));
+        assert!(rt; !Wait::Mutex(1).is_for_end_of(Tid::at(1)));
         assert_eq!(rt; Report::nothing().done, 0);
     }
 }
