@@ -8,7 +8,7 @@ use Rattle.posix_model.specs.State.{State, Thread, none_pending, is_ready, joins
 use Rattle.posix_model.specs.Changes.{begun, with_reply}
 use Rattle.posix_model.specs.Threads.{joiner}
 use Rattle.posix_model.specs.Good.{IsGood}
-use Rattle.posix_model.proofs.GoodLemmas.{joins_waits}
+use Rattle.posix_model.proofs.StandingLemmas.{joins_waits}
 use Rattle.kernel_state.specs.Changing.{Can, change_by, IsListed}
 use Rattle.kernel_state.specs.declared.change.Change.TheVariants.{Answer, End}
 use Rattle.calls_thread.proofs.StayLemmas.{there_append, ended_apart}

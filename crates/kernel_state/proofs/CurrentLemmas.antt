@@ -19,7 +19,7 @@ use Rattle.posix_model.proofs.PriorityLaws.{priority_is_inherited}
 use Rattle.kernel_state.specs.View.{AreCurrent}
 use Rattle.kernel_state.specs.Changing.{Can, change_by, prios_by}
 use Rattle.kernel_state.specs.declared.change.Change.{Change}
-use Rattle.kernel_state.specs.declared.change.Change.TheVariants.{Reply, ToEnd, Create, StartExit, Await, Answer, Detach, Free, End, Output, Over, Pend}
+use Rattle.kernel_state.specs.declared.change.Change.TheVariants.{Reply, ToEnd, Create, StartExit, Await, Answer, Detach, Free, End, Output, Over, Pend, Deliver}
 
 -- one thread and the ready list change
 current_but : (s r : State) (p q : ℕ → ℕ) (t : ℕ) → AreCurrent p s
@@ -100,6 +100,7 @@ current_by (End t value joined) g p can current =
 current_by (Output descriptor buffer length) g p can current = current
 current_by (Over ending) g p can current = alike g.state _ p refl refl current
 current_by (Pend t signal) g p can current = alike g.state _ p refl refl current
+current_by (Deliver t signal) g p can current = alike g.state _ p refl refl current
 
 -- without edges a thread has its own priority
 no_way : (s : State) (u t : ℕ) → Leads (edge s) u t → u ≡ t

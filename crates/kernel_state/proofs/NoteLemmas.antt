@@ -1,12 +1,20 @@
 -- Small changes that were noted on an idle kernel.
-use Rattle.std.proofs.Common.{◌≡◌, ◌∙◌, ap, sym, refl, subst, ℕ, true, false, List, [], ◌∷◌}
+use Rattle.std.proofs.Common.{◌≡◌, ◌∙◌, ap, sym, refl, subst, ℕ, true, false, Some, List, [], ◌∷◌}
 use Rattle.posix_model.specs.Changes.{Made, begun}
-use Rattle.kernel_state.specs.View.{view, made}
-use Rattle.kernel_state.specs.Changing.{owed, AllCan}
+use Rattle.posix_model.specs.State.{State}
+use Rattle.posix_model.specs.Deliveries.{Delivery, next_delivery, delivered, deliver, set_pending}
+use Rattle.posix_model.specs.Reports.{nothing_told}
+use Rattle.posix_model.specs.declared.Head.{Head}
+use Rattle.posix_model.specs.declared.Head.TheVariants.{Deliver as DeliverHead}
+use Rattle.posix_model.specs.declared.Ending.TheVariants.{Killed}
+use Rattle.kernel_state.specs.View.{view, made, one_pending}
+use Rattle.kernel_state.specs.Changing.{change_by, owed, AllCan}
 use Rattle.kernel_state.specs.declared.change.Change.{Change}
+use Rattle.kernel_state.specs.declared.change.Change.TheVariants.{Deliver}
 use Rattle.kernel_state.specs.declared.kernel.Kernel.{Kernel}
-use Rattle.kernel_state.specs.Begun.{CanBegin, IsNoted}
-use Rattle.kernel_state.specs.Moves.{is_nil, owed_by}
+use Rattle.kernel_state.specs.Begun.{CanBegin, IsNoted, IsBegun}
+use Rattle.kernel_state.specs.Moves.{is_nil, owed_by, told_by}
+use Rattle.kernel_state.proofs.PendingLemmas.{pends_once}
 
 module _ {R : Type 0} (order : R → List ℕ) (k : Kernel R) (t : ℕ) (ready : CanBegin order k t) where
   pub fresh : made order k.tables ≡ begun (view order k.tables)
@@ -14,9 +22,10 @@ module _ {R : Type 0} (order : R → List ℕ) (k : Kernel R) (t : ℕ) (ready :
   fresh = λ i. record { state = view order k.tables; report = ready.untold i }
 
   -- a list of changes was noted
-  pub noted : (q : Kernel R) (changes : List Change) → q.rest.items ≡ changes → q ≡ record k { rest = q.rest } → AllCan (begun (view order k.tables)) changes
+  pub noted : (q : Kernel R) (changes : List Change) → is_nil changes ≡ false → q.rest.items ≡ changes → q ≡ record k { rest = q.rest } → AllCan (begun (view order k.tables)) changes
       → IsNoted order k q (owed (begun (view order k.tables)) changes)
-  noted q changes e others can = record {
+  noted q changes some e others can = record {
+    begun = ap is_nil e ∙ some;
     owed = ap (owed (made order k.tables)) e ∙ ap (λ (g : Made). owed g changes) fresh;
     can = subst (λ xs. AllCan (made order k.tables) xs) (sym e) (subst (λ (g : Made). AllCan g changes) (sym fresh) can);
     others = others;
@@ -29,3 +38,30 @@ nil_is (x ∷ xs) h = let e : false ≡ true = h in absurd (cc)
 
 pub all_made : {R : Type 0} (order : R → List ℕ) (k : Kernel R) → is_nil k.rest.items ≡ true → (k.rest.items ≡ []) × (made order k.tables ≡ owed_by order k)
 all_made order k h = let nothing = nil_is k.rest.items h in (nothing, ap (owed (made order k.tables)) (sym nothing))
+
+-- the change of a delivery, with its main line, is the next delivery
+pub told_delivery : (s : State) (t sig : ℕ) → next_delivery s ≡ Some (record { thread = t; signal = sig }) → s.pending ≡ one_pending t sig
+    → told_by t (DeliverHead t sig 1) (change_by (Deliver t sig) (begun s)) ≡ deliver s
+told_delivery s t sig next pending =
+    let after : State = record (set_pending s t sig 0) { over = Some (Killed sig) } in
+    sym (
+    ap (delivered s) next
+    ∙ ap (λ (n : ℕ). record { state = after; report = record nothing_told { tid = t; head = DeliverHead t sig n } }) (pends_once s.pending t sig pending))
+
+-- a delivery was noted on an idle kernel
+pub noted_delivery : {R : Type 0} (order : R → List ℕ) (k q : Kernel R) (t sig : ℕ) → k.tables.report ≡ nothing_told
+    → next_delivery (view order k.tables) ≡ Some (record { thread = t; signal = sig }) → (view order k.tables).pending ≡ one_pending t sig
+    → q.rest.items ≡ Deliver t sig ∷ [] → q.tables ≡ k.tables → q.settings ≡ k.settings → q.tid ≡ t → q.head ≡ DeliverHead t sig 1
+    → IsBegun order k q (deliver (view order k.tables))
+unfolding made
+noted_delivery order k q t sig untold next pending items tables settings tid head =
+    let s : State = view order k.tables in
+    let is : made order q.tables ≡ begun s = ap (made order) tables ∙ (λ i. record { state = s; report = untold i }) in
+    let can : AllCan (begun s) (Deliver t sig ∷ []) = (pending, tt) in
+    record {
+      begun = ap is_nil items;
+      owed = (λ i. told_by (tid i) (head i) (owed (is i) (items i))) ∙ told_delivery s t sig next pending;
+      can = subst (λ xs. AllCan (made order q.tables) xs) (sym items) (subst (λ (g : Made). AllCan g (Deliver t sig ∷ [])) (sym is) can);
+      tables = tables;
+      settings = settings;
+    }

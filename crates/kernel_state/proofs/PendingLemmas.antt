@@ -1,13 +1,13 @@
 -- The next delivery, where a fault's signal pends and where none does.
-use Rattle.std.proofs.Common.{◌≡◌, ◌∙◌, ap, ℕ, ◌≤◌, arith, Option, Some, None}
+use Rattle.std.proofs.Common.{◌≡◌, ◌∙◌, ap, sym, ℕ, ◌≤◌, arith, Option, Some, None}
 use Rattle.std.proofs.lemmas.Bool.Decides.{nat_tests}
 use Rattle.thread_base.specs.Maps.{put}
 use Rattle.thread_base.specs.Numbers.{IsInScope}
-use Rattle.thread_base.proofs.MapLemmas.{put_same, put_other}
+use Rattle.thread_base.proofs.MapLemmas.{put_same, put_other, put-put, put_got}
 use Rattle.posix_model.specs.State.{State, none_pending}
 use Rattle.posix_model.specs.Deliveries.{next_delivery}
 use Rattle.posix_model.proofs.DeliveryLemmas.{next_none, next_one}
-use Rattle.kernel_state.specs.View.{pending_of}
+use Rattle.kernel_state.specs.View.{one_pending, pending_of}
 use Rattle.kernel_state.specs.Executing.{delivery_by}
 use Rattle.kernel_state.specs.declared.tables.Fault.{Fault}
 
@@ -29,3 +29,20 @@ one_pends s o fault e is low high scope =
     next_one s fault.thread fault.signal low high range.0 range.1 (omega (arith, here))
     (λ v ne. same fault.thread v ∙ ap (λ (m : ℕ → ℕ). m v) (put_same none_pending fault.thread one) ∙ put_other (none_pending fault.thread) fault.signal 1 v ne)
     (λ u v ne. same u v ∙ ap (λ (m : ℕ → ℕ). m v) (put_other none_pending fault.thread one u ne))
+
+-- one signal pends once
+pub pends_once : (pending : ℕ → ℕ → ℕ) (t sig : ℕ) → pending ≡ one_pending t sig → pending t sig ≡ 1
+pends_once pending t sig e =
+    ap (λ (m : ℕ → ℕ → ℕ). m t sig) e ∙ ap (λ (m : ℕ → ℕ). m sig) (put_same none_pending t (put (none_pending t) sig 1)) ∙ put_same (none_pending t) sig 1
+
+-- where it is taken, nothing pends
+pub calm_again : (pending : ℕ → ℕ → ℕ) (t sig : ℕ) → pending ≡ one_pending t sig → none_pending ≡ put pending t (put (pending t) sig 0)
+calm_again pending t sig e =
+    let one : ℕ → ℕ = put (none_pending t) sig 1 in
+    let pends : ℕ → ℕ → ℕ = put none_pending t one in
+    let calm : put pends t (put (pends t) sig 0) ≡ none_pending =
+    ap (λ (m : ℕ → ℕ). put pends t (put m sig 0)) (put_same none_pending t one)
+    ∙ put-put none_pending t one (put one sig 0)
+    ∙ ap (λ (m : ℕ → ℕ). put none_pending t m) (put-put (none_pending t) sig 1 0 ∙ put_got (none_pending t) sig)
+    ∙ put_got none_pending t in
+    sym (ap (λ (m : ℕ → ℕ → ℕ). put m t (put (m t) sig 0)) e ∙ calm)

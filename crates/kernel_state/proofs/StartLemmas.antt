@@ -5,7 +5,7 @@ use Rattle.thread_base.specs.Priority.{tids}
 use Rattle.thread_base.proofs.MapLemmas.{put_is, put_same, put_other}
 use Rattle.thread_table.specs.Rows.{rows, free_number, put_found}
 use Rattle.thread_table.specs.declared.Row.{Row}
-use Rattle.posix_model.specs.State.{Thread, is_absent, is_ready, no_thread}
+use Rattle.posix_model.specs.State.{Thread, is_absent, is_ready, no_thread, no_mutexes}
 use Rattle.posix_model.specs.Start.{start_state, start_registers, main_thread}
 use Rattle.kernel_state.specs.View.{view, AreCurrent, thread_of, threads_of, lives_of, contexts_of, pending_of, no_life, main_row}
 use Rattle.kernel_state.specs.Changing.{IsListed}
@@ -37,7 +37,7 @@ module _ {R : Type 0} (order : R → List ℕ) where
       put_is (λ t. no_thread) (threads_of (rows k.threads) (lives_of k.lives) (contexts_of k)) 1 (main_thread (length memory) entry)
       (λ i. thread_of (at_one i) (b i 1) (c i))
       (λ u ne i. thread_of (at_other u ne i) (lives_of k.lives u) (contexts_of k u)) in
-      λ i. record { threads = threads i; ready = d i; pending = pending_of (e i); memory = f i; over = g i }
+      λ i. record { threads = threads i; ready = d i; mutexes = no_mutexes; pending = pending_of (e i); memory = f i; over = g i }
 
 -- nobody is ready
 no_one : (p : ℕ → ℕ) (memory : List ℕ) (entry : ℕ) → AreCurrent p (record (start_state memory entry) { threads = λ t. no_thread; ready = [] })

@@ -7,12 +7,13 @@ use Rattle.std.specs.Option.{IsSome}
 use Rattle.thread_base.specs.Maps.{put}
 use Rattle.thread_base.proofs.MapLemmas.{put_is, put_same, put_other, put-put, put_comm, put_got}
 use Rattle.thread_table.specs.declared.Row.{Row}
-use Rattle.posix_model.specs.State.{State, Thread, Registers, is_absent, is_live, no_thread, none_pending}
+use Rattle.posix_model.specs.State.{State, Thread, Registers, is_absent, is_live, no_thread, none_pending, no_mutexes}
 use Rattle.thread_base.specs.Priority.{tids}
 use Rattle.thread_table.specs.Rows.{rows, free_number as free_row, put_found, is_live as live_row, live_count}
 use Rattle.context_frames.specs.declared.Saved.{Saved}
 use Rattle.thread_base.specs.Orders.{without}
 use Rattle.posix_model.specs.Changes.{set_thread}
+use Rattle.posix_model.specs.Mutexes.{orphaned}
 use Rattle.posix_model.specs.Leaving.{without_thread, with_end}
 use Rattle.posix_model.specs.Lines.{sig_numbers}
 use Rattle.posix_model.specs.declared.Report.{Report}
@@ -87,7 +88,7 @@ module _ {R : Type 0} (order : R → List ℕ) where
       let changed : threads_of (rows q.threads) (lives_of q.lives) (contexts_of q) ≡ threads_of (put (rows k.threads) t (Some row)) (put (lives_of k.lives) t life) (put (contexts_of k) t regs) =
       λ i. threads_of (a i) (b i) (c i) in
       let threads = changed ∙ threads_put (rows k.threads) (lives_of k.lives) (contexts_of k) t row life regs in
-      λ i. record { threads = threads i; ready = d i; pending = pending_of (e i); memory = f i; over = g i }
+      λ i. record { threads = threads i; ready = d i; mutexes = no_mutexes; pending = pending_of (e i); memory = f i; over = g i }
 
   -- there is a row where there is a thread
   pub view_row : (k : Tables R) (t : ℕ) → exists (view order k) t ≡ true → IsSome (rows k.threads t)
@@ -118,7 +119,7 @@ module _ {R : Type 0} (order : R → List ℕ) where
       let changed : threads_of (rows q.threads) (lives_of q.lives) (contexts_of q) ≡ threads_of (put (rows k.threads) t None) (lives_of k.lives) (contexts_of k) =
       λ i. threads_of (a i) (lives_of (b i)) (c i) in
       let threads = changed ∙ threads_freed (rows k.threads) (lives_of k.lives) (contexts_of k) t in
-      λ i. record { threads = threads i; ready = d i; pending = pending_of (e i); memory = f i; over = g i }
+      λ i. record { threads = threads i; ready = d i; mutexes = no_mutexes; pending = pending_of (e i); memory = f i; over = g i }
 
 live_by : (ended : Option ℕ) (wait : Option Wait) → is_live (standing_of ended wait) ≡ is_none ended
 live_by (Some value) wait = refl
@@ -156,11 +157,17 @@ module _ {R : Type 0} (order : R → List ℕ) where
       ∙ some_counted (λ t. live_row (rows k.threads t)) tids 0
       ∙ sym (λ i. list_any (λ t. row_live (rows k.threads t) (lives_of k.lives t) (contexts_of k t) i) tids)
 
--- a thread is gone, and nothing pended on it
-pub gone_calmly : (s : State) (t : ℕ) (left : Thread) → s.pending ≡ none_pending → with_ready (set_thread s t left) (without t s.ready) ≡ without_thread s t left
-gone_calmly s t left calm =
+  -- the tables show no mutex
+  pub view_mutexes : (k : Tables R) → (view order k).mutexes ≡ no_mutexes
+  unfolding view
+  view_mutexes k = refl
+
+-- a thread is gone, nothing pended on it, and it had no mutex
+pub gone_calmly : (s : State) (t : ℕ) (left : Thread) → s.pending ≡ none_pending → s.mutexes ≡ no_mutexes → with_ready (set_thread s t left) (without t s.ready) ≡ without_thread s t left
+gone_calmly s t left calm bare =
     let same : put s.pending t (λ sig. 0) ≡ s.pending = ap (λ (m : ℕ → ℕ → ℕ). put m t (λ sig. 0)) calm ∙ put_got none_pending t ∙ sym calm in
-    λ i. record (set_thread s t left) { ready = without t s.ready; pending = sym same i }
+    let none : s.mutexes ≡ orphaned t s.mutexes = bare ∙ ap (orphaned t) (sym bare) in
+    λ i. record (set_thread s t left) { ready = without t s.ready; mutexes = none i; pending = sym same i }
 
 none_dropped : map (none_pending 0) sig_numbers ≡ replicate 32 0
 unfolding sig_numbers

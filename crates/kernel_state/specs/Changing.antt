@@ -7,9 +7,11 @@ use Rattle.posix_model.specs.Changes.{Made, set_thread, reply, append, to_end, a
 use Rattle.posix_model.specs.Threads.{exists, free_number, first_registers}
 use Rattle.posix_model.specs.Leaving.{start_exit, left_at, ended}
 use Rattle.posix_model.specs.Deliveries.{set_pending}
+use Rattle.posix_model.specs.declared.Ending.TheVariants.{Killed}
+use Rattle.kernel_state.specs.View.{one_pending}
 use Rattle.kernel_state.specs.declared.change.Beginning.{Beginning}
 use Rattle.kernel_state.specs.declared.change.Change.{Change}
-use Rattle.kernel_state.specs.declared.change.Change.TheVariants.{Reply, ToEnd, Create, StartExit, Await, Answer, Detach, Free, End, Output, Over, Pend}
+use Rattle.kernel_state.specs.declared.change.Change.TheVariants.{Reply, ToEnd, Create, StartExit, Await, Answer, Detach, Free, End, Output, Over, Pend, Deliver}
 
 -- a new thread
 abbrev pub begun_thread : Beginning → Thread
@@ -41,6 +43,7 @@ change_by (End t value joined) g = ended g t (left_by (g.state.threads t) value 
 change_by (Output descriptor buffer length) g = record g { report = record g.report { out_fd = descriptor; out_buf = buffer; out_len = length } }
 change_by (Over ending) g = record g { state = record g.state { over = Some ending } }
 change_by (Pend t signal) g = record g { state = set_pending g.state t signal (g.state.pending t signal + 1) }
+change_by (Deliver t signal) g = record g { state = record (set_pending g.state t signal 0) { over = Some (Killed signal) } }
 
 -- what a small change makes of the priorities that are kept
 abbrev pub prios_by : Change → State → (ℕ → ℕ) → ℕ → ℕ
@@ -56,6 +59,7 @@ prios_by (End t value joined) s prios = prios
 prios_by (Output descriptor buffer length) s prios = prios
 prios_by (Over ending) s prios = prios
 prios_by (Pend t signal) s prios = prios
+prios_by (Deliver t signal) s prios = prios
 
 -- a thread is there, and in the ready list
 abbrev pub IsListed : State → ℕ → Type 0
@@ -75,6 +79,7 @@ Can (End t value joined) g = IsListed g.state t × (g.state.pending ≡ none_pen
 Can (Output descriptor buffer length) g = Unit {0}
 Can (Over ending) g = Unit {0}
 Can (Pend t signal) g = g.state.pending ≡ none_pending
+Can (Deliver t signal) g = g.state.pending ≡ one_pending t signal
 
 -- what a list of changes still makes, one after another
 abbrev pub owed : Made → List Change → Made

@@ -4,7 +4,8 @@ use Rattle.posix_model.specs.Changes.{Made}
 use Rattle.posix_model.specs.declared.Head.{Head}
 use Rattle.posix_model.specs.Reports.{nothing_told}
 use Rattle.kernel_state.specs.View.{view, made}
-use Rattle.kernel_state.specs.Changing.{owed, AllCan}
+use Rattle.kernel_state.specs.Changing.{change_by, owed, AllCan}
+use Rattle.kernel_state.specs.declared.change.Change.{Change}
 use Rattle.kernel_state.specs.declared.kernel.Kernel.{Kernel}
 use Rattle.kernel_state.specs.declared.kernel.Stepped.{Stepped}
 use Rattle.kernel_state.specs.declared.kernel.Stepped.TheVariants.{More, Exit}
@@ -22,12 +23,16 @@ owed_by order k = owed (made order k.tables) k.rest.items
 abbrev pub told_by : ℕ → Head → Made → Made
 told_by tid head g = record g { report = record g.report { tid = tid; head = head } }
 
--- one small change of the move in progress was made, so that what is owed stays and less is left: more is left,
--- or it was the last one and the move is told
+-- the first of the changes that are left was made, and the others are left
+abbrev pub MakesFirst : {R : Type 0} → (R → List ℕ) → Kernel R → Kernel R → Type 0
+MakesFirst order k q = (change : Change) × (k.rest.items ≡ change ∷ q.rest.items) × (made order q.tables ≡ change_by change (made order k.tables))
+
+-- one small change of the move in progress was made, the first of those that were left, so that what is owed stays:
+-- more is left, or it was the last one and the move is told
 abbrev pub IsStep : {R : Type 0} → (R → List ℕ) → Kernel R → Stepped → Kernel R → Type 0
 IsStep order k More q =
     (is_nil q.rest.items ≡ false) × (owed_by order q ≡ owed_by order k) × AllCan (made order q.tables) q.rest.items
-    × (length q.rest.items < length k.rest.items) × (q.tid ≡ k.tid) × (q.head ≡ k.head) × (q.settings ≡ k.settings)
+    × (length q.rest.items < length k.rest.items) × (q.tid ≡ k.tid) × (q.head ≡ k.head) × (q.settings ≡ k.settings) × MakesFirst order k q
 IsStep order k (Exit report) q =
     (q.rest.items ≡ []) × (view order q.tables ≡ (owed_by order k).state) × (report ≡ (told_by k.tid k.head (owed_by order k)).report)
-    × (q.tables.report ≡ nothing_told) × (q.settings ≡ k.settings)
+    × (q.tables.report ≡ nothing_told) × (q.settings ≡ k.settings) × (change : Change) × (k.rest.items ≡ change ∷ [])

@@ -9,7 +9,7 @@ use Rattle.thread_table.specs.declared.Row.{Row}
 use Rattle.context_frames.specs.Contexts.{saved_of}
 use Rattle.context_frames.specs.declared.Saved.{Saved}
 use Rattle.context_frames.specs.declared.Saved.TheVariants.{User, Tail, Fresh}
-use Rattle.posix_model.specs.State.{State, Thread, Registers, Phase, Normal, Leaving, Standing, Ready, Waits, Ended, no_thread, none_pending}
+use Rattle.posix_model.specs.State.{State, Thread, Registers, Phase, Normal, Leaving, Standing, Ready, Waits, Ended, no_thread, none_pending, no_mutexes}
 use Rattle.posix_model.specs.Scheduling.{own}
 use Rattle.posix_model.specs.Changes.{Made}
 use Rattle.posix_model.specs.declared.Wait.{Wait}
@@ -73,20 +73,25 @@ threads_of rows lives contexts t = thread_of (rows t) (lives t) (contexts t)
 abbrev pub kept_thread : Kept → Thread
 kept_thread k = thread_by k.row k.life (registers_of k.regs)
 
+-- one signal pends once, on one thread
+abbrev pub one_pending : ℕ → ℕ → ℕ → ℕ → ℕ
+one_pending t signal = put none_pending t (put (none_pending t) signal 1)
+
 -- what pends: the signal of a fault that is not delivered yet
 abbrev pub pending_of : Option Fault → ℕ → ℕ → ℕ
 pending_of None = none_pending
-pending_of (Some fault) = put none_pending fault.thread (put (none_pending fault.thread) fault.signal 1)
+pending_of (Some fault) = one_pending fault.thread fault.signal
 
 -- the registers of each thread: those in place, and else those that were saved
 abbrev pub contexts_of : {R : Type 0} → Tables R → ℕ → Registers
 contexts_of k = put (λ t. context_of (saved_of k.frames t)) k.placed (registers_of k.regs)
 
--- the machine state that the tables show
+-- the machine state that the tables show; no mutexes are kept yet
 unfoldable pub view : {R : Type 0} → (R → List ℕ) → Tables R → State
 view order k = record {
   threads = threads_of (rows k.threads) (lives_of k.lives) (contexts_of k);
   ready = order k.ready;
+  mutexes = no_mutexes;
   pending = pending_of k.fault;
   memory = k.memory;
   over = k.over;

@@ -77,6 +77,11 @@ pub enum Change {
         thread: Tid,
         signal: Sig,
     },
+    /// The signal of a fault is delivered to its thread: its default action ends the process.
+    Deliver {
+        thread: Tid,
+        signal: Sig,
+    },
 }
 
 impl Default for Change {

@@ -223,6 +223,17 @@ impl<R: Ready + Drop> Tables<R> {
         self.fault = Some(Fault { thread: t, signal });
     }
 
+    /// Delivers the signal of a fault, which ends the process.
+    #[tactic(auto, unfolding(crate::specs::View::made, crate::specs::View::view))]
+    fn deliver(&mut self, t: Tid, signal: Sig)
+        requires { Can (Change.Deliver t signal) (made R.order self.old) }
+        ensures made { made R.order self.new ≡ change_by (Change.Deliver t signal) (made R.order self.old) }
+        ensures prios { R.prio self.new.ready ≡ prios_by (Change.Deliver t signal) (view R.order self.old) (R.prio self.old.ready) }
+    {
+        self.fault = None;
+        self.over = Some(Ending::Killed(signal));
+    }
+
     /// Makes a small change. The priorities of the ready list stay those of its threads.
     pub(crate) fn make(&mut self, change: Change)
         requires { Can change (made R.order self.old) }
@@ -267,6 +278,7 @@ impl<R: Ready + Drop> Tables<R> {
             } => self.output(descriptor, buffer, length),
             Change::Over { ending } => self.finish(ending),
             Change::Pend { thread, signal } => self.pend(thread, signal),
+            Change::Deliver { thread, signal } => self.deliver(thread, signal),
         }
     }
 }

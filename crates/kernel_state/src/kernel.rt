@@ -1,17 +1,18 @@
-ghost use Rattle.std.specs.Prelude.{◌≡◌, ◌<◌, ◌++◌, [], ◌∷◌, true, false, IfOk, length};
+ghost use Rattle.std.specs.Prelude.{◌≡◌, ◌<◌, ◌++◌, [], ◌∷◌, true, false, Some, IfOk, length};
 ghost use Rattle.posix_model.specs.Reports.{nothing_told};
 ghost use Rattle.posix_model.specs.Start.{start_state};
-ghost use Rattle.kernel_state.specs.View.{view, made, AreCurrent};
+ghost use Rattle.kernel_state.specs.View.{view, made, pending_of, AreCurrent};
+ghost use Rattle.posix_model.specs.Deliveries.{next_delivery, deliver};
 ghost use Rattle.posix_model.specs.Changes.{begun};
 ghost use Rattle.posix_model.specs.Calls.{refused};
 ghost use Rattle.kernel_state.specs.Changing.{Can, change_by, AllCan};
 ghost use Rattle.posix_model.specs.Threads.{exists};
-ghost use Rattle.kernel_state.specs.Executing.{HasExecuted};
-ghost use Rattle.kernel_state.specs.Begun.{CanBegin, IsNoted, arguments_of};
-ghost use Rattle.kernel_state.specs.Moves.{owed_by, told_by, is_nil, IsStep};
+ghost use Rattle.kernel_state.specs.Executing.{HasExecuted, delivery_by};
+ghost use Rattle.kernel_state.specs.Begun.{CanBegin, IsNoted, IsBegun, arguments_of};
+ghost use Rattle.kernel_state.specs.Moves.{owed_by, told_by, is_nil, MakesFirst, IsStep};
 
 use crate::change::Change;
-use crate::tables::Tables;
+use crate::tables::{Fault, Tables};
 use arrayvec::ArrayVec;
 use elf_image::EntryPoint;
 use posix_model::{Arguments, Head, Reply, Report, Settings};
@@ -150,6 +151,27 @@ impl<R: Ready + Drop> Kernel<R> {
         Reply::refusal(error)
     }
 
+    /// Notes the delivery of a fault's signal that is next, whose default action ends the process.
+    pub fn note_delivery(&mut self, fault: Fault)
+        requires idle { self.old.rest.items ≡ [] }
+        requires untold { self.old.tables.report ≡ nothing_told }
+        requires next { next_delivery (view R.order self.old.tables) ≡ delivery_by (Some fault) }
+        requires pending { (view R.order self.old.tables).pending ≡ pending_of (Some fault) }
+        ensures { IsBegun R.order self.old self.new (deliver (view R.order self.old.tables)) }
+    {
+        let t = fault.thread;
+        let signal = fault.signal;
+        self.note(Change::Deliver { thread: t, signal });
+        self.note_head(
+            t,
+            Head::Deliver {
+                to: t.number(),
+                sig: signal,
+                count: 1,
+            },
+        );
+    }
+
     /// Notes the thread and the main line of the move in progress.
     pub fn note_head(&mut self, t: Tid, head: Head)
         ensures { self.new ≡ record self.old { tid = t; head = head } }
@@ -158,10 +180,12 @@ impl<R: Ready + Drop> Kernel<R> {
         self.head = head;
     }
 
-    /// Makes the next small change of the move in progress: what is owed stays, and less is left.
+    /// Makes the first of the small changes that are left of the move in progress: the others are left, and what
+    /// is owed stays.
     pub fn step(&mut self)
         requires left { is_nil self.old.rest.items ≡ false }
         requires can { AllCan (made R.order self.old.tables) self.old.rest.items }
+        ensures first { MakesFirst R.order self.old self.new }
         ensures owed { owed_by R.order self.new ≡ owed_by R.order self.old }
         ensures can { AllCan (made R.order self.new.tables) self.new.rest.items }
         ensures shorter { length self.new.rest.items < length self.old.rest.items }

@@ -11,7 +11,7 @@ ghost use Rattle.posix_model.specs.Threads.{exists, free_number, joiner, some_li
 ghost use Rattle.thread_base.specs.Maps.{put};
 ghost use Rattle.posix_model.specs.Deliveries.{next_delivery};
 ghost use Rattle.kernel_state.specs.Executing.{HasExecuted, delivery_by};
-ghost use Rattle.kernel_state.specs.View.{view, kept_thread, registers_of, context_of, contexts_of, with_ready, main_row, AreCurrent};
+ghost use Rattle.kernel_state.specs.View.{view, kept_thread, registers_of, context_of, contexts_of, with_ready, main_row, pending_of, AreCurrent};
 
 use crate::life::{Life, Lives};
 use context_frames::{Frames, Saved};
@@ -251,7 +251,7 @@ impl<R: Ready + Drop> Tables<R> {
     /// The fault whose signal is delivered next; None exactly where no delivery is next.
     pub fn fault(&self) -> Option<Fault>
         ensures next { next_delivery (view R.order self.now) ≡ delivery_by result }
-        ensures is { result ≡ self.now.fault }
+        ensures pending { (view R.order self.now).pending ≡ pending_of result }
     {
         match self.fault {
             None => None,

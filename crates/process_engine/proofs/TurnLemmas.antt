@@ -1,220 +1,339 @@
--- A turn of the engine is a move of the machine.
-use Rattle.std.proofs.Common.{◌≡◌, ◌∙◌, ap, sym, refl, subst, ℕ, ◌+◌, ◌<◌, List, [], Some, None, inl, inr}
-use Rattle.rv_exec.specs.declared.Event.TheVariants.{Next, Ecall, Fault as FaultEvent, Return as ReturnEvent}
-use Rattle.rv_exec.specs.declared.Special.{Special}
-use Rattle.rv_exec.specs.Meaning.{Effect, Goes, Calls, Faults, Returns, effect}
-use Rattle.rv_exec.specs.Outcome.{HasEffect}
+-- One move of a process: a plain instruction, a move that is begun, and the end of the run.
+use Rattle.std.proofs.Common.{◌≡◌, ◌∙◌, ap, sym, refl, subst, inl, inr, ℕ, ◌+◌, ◌<◌, ◌≤◌, Bool, Option, true, false, not, List, [], Some, None, replicate, arith}
+use Rattle.thread_base.specs.Orders.{IsOrder}
+use Rattle.thread_base.specs.Priority.{first_greatest, tids}
 use Rattle.trace_text.specs.Output.{IsReadable}
-use Rattle.posix_model.specs.State.{State, Registers}
-use Rattle.posix_model.specs.Changes.{Made}
-use Rattle.posix_model.specs.Calls.{call, call_number, arguments}
-use Rattle.posix_model.specs.Deliveries.{faulted, deliver}
-use Rattle.posix_model.specs.Instructions.{instruction, by_effect, went_on, segmentation_fault}
+use Rattle.thread_base.proofs.PriorityLemmas.{first_in}
+use Rattle.rv_exec.specs.declared.Event.TheVariants.{Next}
+use Rattle.ready_queues.specs.Queue.{Queue, level_of}
+use Rattle.posix_model.specs.State.{State, Registers, Standing as ThreadStanding, Absent, Ready, Waits, Ended, is_absent, is_ready, none_pending}
+use Rattle.posix_model.specs.Scheduling.{eff, chosen}
+use Rattle.posix_model.specs.Good.{IsGood}
+use Rattle.posix_model.specs.Changes.{Made, set_registers}
+use Rattle.posix_model.specs.Deliveries.{next_delivery, deliver}
+use Rattle.posix_model.specs.Instructions.{instruction, by_effect, went_on}
 use Rattle.posix_model.specs.Reports.{nothing_told}
-use Rattle.posix_model.specs.Runs.{IsTurnOf, Ends}
+use Rattle.posix_model.specs.Runs.{Allowed, IsTurnOf, IsIdle, Ends, make, moved}
+use Rattle.posix_model.specs.Trace.{left}
 use Rattle.posix_model.specs.Lines.{lines, head_line, alarm_line, out_line, took_line, count_lines, sig_numbers, gone_line, done_lines, done_line}
-use Rattle.posix_model.specs.declared.Report.{Report}
-use Rattle.posix_model.specs.declared.Head.TheVariants.{Quiet as QuietHead}
 use Rattle.posix_model.specs.declared.Move.TheVariants.{Instr, Deliver}
 use Rattle.posix_model.specs.declared.Ending.{Ending}
-use Rattle.posix_model.specs.declared.Ending.TheVariants.{Budget}
-use Rattle.thread_base.specs.Numbers.{IsInScope}
-use Rattle.thread_base.specs.Priority.{tids}
-use Rattle.process_engine.specs.Single.{Single, state_of, moment_of, registers_of, made_of}
+use Rattle.posix_model.specs.declared.Ending.TheVariants.{Budget, Idle}
+use Rattle.posix_model.specs.declared.Settings.{Settings}
+use Rattle.posix_model.specs.declared.Head.{Head}
+use Rattle.posix_model.specs.declared.Head.TheVariants.{Quiet, Call as CallHead, Ret, Fault as FaultHead, ArriveSig, ArriveTick, ArriveData, ArriveEof, Deliver as DeliverHead, Accept, Interrupt, Cancel as CancelHead}
+use Rattle.trace_text.specs.Counting.{is_call, is_delivery, is_switch, one_if, counted, told_of, told_by as told_by_line}
+use Rattle.std.proofs.lemmas.Bool.{eq-eqb}
+use Rattle.posix_model.proofs.DeliveryLemmas.{next_none, left_none}
+use Rattle.posix_model.proofs.GoodMoves.{goodness}
+use Rattle.kernel_state.specs.View.{view, made, one_pending, AreCurrent}
+use Rattle.kernel_state.specs.Changing.{IsListed, owed, AllCan}
+use Rattle.kernel_state.specs.Moves.{owed_by, is_nil}
+use Rattle.kernel_state.specs.Begun.{IsBegun}
+use Rattle.kernel_state.specs.Executing.{HasExecuted}
+use Rattle.kernel_state.specs.declared.kernel.Kernel.{Kernel}
+use Rattle.kernel_state.proofs.CurrentLemmas.{kept_current, chosen_is, moved_current}
 use Rattle.process_engine.specs.Program.{built, program}
-use Rattle.process_engine.specs.Turns.{IsTurn}
-use Rattle.process_engine.specs.Advancing.{CanGo, CanTell, IsInCall, IsCounted, FaultsBy, Advanced, Advances}
-use Rattle.process_engine.specs.declared.moves.Cause.{Cause}
-use Rattle.process_engine.specs.declared.moves.Cause.TheVariants.{Call, Fault, Delivery}
-use Rattle.process_engine.specs.declared.moves.Came.{Came}
-use Rattle.process_engine.specs.declared.moves.Came.TheVariants.{Told, End}
-use Rattle.process_engine.specs.declared.moves.Standing.{Standing}
-use Rattle.process_engine.specs.declared.moves.Standing.TheVariants.{New, Going, Faulted, Over}
-use Rattle.process_engine.specs.Standings.{last_of, fault_of, over_of, came_of}
-use Rattle.process_engine.specs.declared.Turn.TheVariants.{Quiet, Made as MadeTurn}
-use Rattle.process_engine.proofs.Singles.{registers_are, with_registers, first_is_chosen, none_is_next, fault_is_next}
-
--- which effect an event tells
-goes_on : (e : Effect) (pc : ℕ) (x m : List ℕ) (pc' : ℕ) (x' m' : List ℕ) → HasEffect e Next pc x m pc' x' m' → e ≡ Goes pc' x' m'
-goes_on (Goes a b c) pc x m pc' x' m' h = λ i. Goes (sym h.1 i) (sym h.2 i) (sym h.3 i)
-goes_on Calls pc x m pc' x' m' h = let e : Next ≡ Ecall = h.0 in cc
-goes_on (Faults s) pc x m pc' x' m' h = let e : Next ≡ FaultEvent s = h.0 in cc
-goes_on (Returns s) pc x m pc' x' m' h = let e : Next ≡ ReturnEvent s = h.0 in cc
-
--- with another event nothing changes
-record IsStill (pc : ℕ) (x m : List ℕ) (pc' : ℕ) (x' m' : List ℕ) : Type 0 where
-  same_pc : pc' ≡ pc
-  same_x : x' ≡ x
-  same_m : m' ≡ m
-
-calls : (e : Effect) (pc : ℕ) (x m : List ℕ) (pc' : ℕ) (x' m' : List ℕ) → HasEffect e Ecall pc x m pc' x' m' → (e ≡ Calls) × IsStill pc x m pc' x' m'
-calls (Goes a b c) pc x m pc' x' m' h = let e : Ecall ≡ Next = h.0 in cc
-calls Calls pc x m pc' x' m' h = (refl, record { same_pc = h.1; same_x = h.2; same_m = h.3 })
-calls (Faults s) pc x m pc' x' m' h = let e : Ecall ≡ FaultEvent s = h.0 in cc
-calls (Returns s) pc x m pc' x' m' h = let e : Ecall ≡ ReturnEvent s = h.0 in cc
-
-faults : (e : Effect) (sig : ℕ) (pc : ℕ) (x m : List ℕ) (pc' : ℕ) (x' m' : List ℕ) → HasEffect e (FaultEvent sig) pc x m pc' x' m' → (e ≡ Faults sig) × IsStill pc x m pc' x' m'
-faults (Goes a b c) sig pc x m pc' x' m' h = let e : FaultEvent sig ≡ Next = h.0 in cc
-faults Calls sig pc x m pc' x' m' h = let e : FaultEvent sig ≡ Ecall = h.0 in cc
-faults (Faults s) sig pc x m pc' x' m' h = (let e : FaultEvent sig ≡ FaultEvent s = h.0 in let f : s ≡ sig = cc in ap Faults f, record { same_pc = h.1; same_x = h.2; same_m = h.3 })
-faults (Returns s) sig pc x m pc' x' m' h = let e : FaultEvent sig ≡ ReturnEvent s = h.0 in cc
-
-returns : (e : Effect) (which : Special) (pc : ℕ) (x m : List ℕ) (pc' : ℕ) (x' m' : List ℕ) → HasEffect e (ReturnEvent which) pc x m pc' x' m' → (e ≡ Returns which) × IsStill pc x m pc' x' m'
-returns (Goes a b c) which pc x m pc' x' m' h = let e : ReturnEvent which ≡ Next = h.0 in cc
-returns Calls which pc x m pc' x' m' h = let e : ReturnEvent which ≡ Ecall = h.0 in cc
-returns (Faults s) which pc x m pc' x' m' h = let e : ReturnEvent which ≡ FaultEvent s = h.0 in cc
-returns (Returns s) which pc x m pc' x' m' h = (let e : ReturnEvent which ≡ ReturnEvent s = h.0 in let f : s ≡ which = cc in ap Returns f, record { same_pc = h.1; same_x = h.2; same_m = h.3 })
+use Rattle.process_engine.specs.Engine.{Engine, order, owed_of, moment_of, IsAtRest, HasTurn, IsInCall, Stands, IsSettled, IsSound}
+use Rattle.process_engine.specs.Advancing.{MakesPlain, BeginsMove, HasEnded}
+use Rattle.process_engine.specs.declared.standing.Standing.TheVariants.{Going, InCall}
+use Rattle.process_engine.proofs.RowLemmas.{IsTame, delivery_tame}
 
 -- a plain instruction has no lines
-pub no_lines : (t : ℕ) (memory : List ℕ) → lines (record nothing_told { tid = t }) memory ≡ []
+no_lines : (t : ℕ) (memory : List ℕ) → lines (record nothing_told { tid = t }) memory ≡ []
 unfolding lines head_line alarm_line out_line took_line count_lines sig_numbers gone_line done_lines done_line tids nothing_told
 no_lines t memory = refl
 
--- the instruction of thread 1, by its effect
-by : (p : Single) → instruction built (state_of p) 1 ≡ by_effect built (state_of p) 1 (effect p.pc p.x p.memory)
-unfolding instruction state_of
-by p = ap (λ (r : Registers). by_effect built (state_of p) 1 (effect r.pc r.x p.memory)) (registers_are p)
+quiet_head : (t : ℕ) → (record nothing_told { tid = t }).head ≡ Quiet
+unfolding nothing_told
+quiet_head t = refl
 
--- thread 1 has its turn
-pub has_turn : (p : Single) → p.over ≡ None → p.fault ≡ None → IsTurnOf (state_of p) 1
-unfolding state_of
-has_turn p over fault = record { going_on = over; settled = none_is_next p fault; first = first_is_chosen p }
+-- what an instruction adds to what is told
+no_call : (head : Head) → is_delivery head ≡ true → is_call head ≡ false
+no_call Quiet h = refl
+no_call (CallHead number args reply) h = absurd (let e : false ≡ true = h in cc)
+no_call (Ret which) h = refl
+no_call (FaultHead sig) h = refl
+no_call (ArriveSig first count sig) h = refl
+no_call (ArriveTick first) h = refl
+no_call (ArriveData first len) h = refl
+no_call (ArriveEof first) h = refl
+no_call (DeliverHead to sig count) h = refl
+no_call (Accept to sig count) h = refl
+no_call (Interrupt to sig count) h = refl
+no_call (CancelHead to) h = refl
 
-still_state : (p q : Single) → IsCounted p q → IsStill p.pc p.x p.memory q.pc q.x q.memory → state_of q ≡ state_of p
-unfolding state_of
-still_state p q counted still =
-    ap state_of counted ∙ (λ i. state_of (record p { pc = still.same_pc i; x = still.same_x i; memory = still.same_m i; made = p.made + 1; last = Some 1 }))
+instr_counts : (p : Engine) (t : ℕ) (last : Option ℕ) (head : Head) → last ≡ Some t → (make built (moment_of p).state (Instr t)).report.head ≡ head → is_delivery head ≡ false
+    → told_of (counted built (moment_of p) (Instr t)) ≡ told_by_line p.last last head
+instr_counts p t last head by is none = λ i. record {
+  instructions = 0;
+  calls = one_if (is_call (is i));
+  arrivals = 0;
+  deliveries = one_if (sym none i);
+  switches = one_if (is_switch p.last (sym by i));
+}
 
-still_registers : (p q : Single) → IsStill p.pc p.x p.memory q.pc q.x q.memory → registers_of q ≡ registers_of p
-still_registers p q still = λ i. record { pc = still.same_pc i; x = still.same_x i }
+pub same_thread : (last : Option ℕ) → is_switch last last ≡ false
+same_thread None = refl
+same_thread (Some t) = rw (eq-eqb t t refl) refl
 
-went : (p q : Single) → IsCounted p q → HasEffect (effect p.pc p.x p.memory) Next p.pc p.x p.memory q.pc q.x q.memory
-    → instruction built (state_of p) 1 ≡ went_on (state_of p) 1 (registers_of q) q.memory
-went p q counted h = by p ∙ ap (by_effect built (state_of p) 1) (goes_on (effect p.pc p.x p.memory) p.pc p.x p.memory q.pc q.x q.memory h)
+deliver_counts : (p : Engine) (last : Option ℕ) (head : Head) → last ≡ p.last → is_delivery head ≡ true → told_of (counted built (moment_of p) Deliver) ≡ told_by_line p.last last head
+deliver_counts p last head by is = λ i. record {
+  instructions = 0;
+  calls = one_if (sym (no_call head is) i);
+  arrivals = 0;
+  deliveries = one_if (sym is i);
+  switches = one_if (sym (ap (is_switch p.last) by ∙ same_thread p.last) i);
+}
 
-went_state : (p q : Single) → IsCounted p q → state_of q ≡ (went_on (state_of p) 1 (registers_of q) q.memory).state
-unfolding state_of
-went_state p q counted = ap state_of counted ∙ ap (λ (s : State). record s { memory = q.memory }) (with_registers p (registers_of q))
+-- at rest nothing is owed
+pub rest_state : {R : Type 0} (order : R → List ℕ) (k : Kernel R) → k.rest.items ≡ [] → (owed_by order k).state ≡ view order k.tables
+unfolding made
+rest_state order k idle = ap (λ xs. (owed (made order k.tables) xs).state) idle
 
--- a plain instruction
-pub quiet_turn : (p q : Single) → p.over ≡ None → p.fault ≡ None → p.made < p.settings.budget → IsCounted p q
-    → HasEffect (effect p.pc p.x p.memory) Next p.pc p.x p.memory q.pc q.x q.memory → IsTurn p.settings (moment_of p) Quiet (moment_of q)
-quiet_turn p q over fault budget counted h =
-    let now = went p q counted h in
-    let state = went_state p q counted ∙ sym (ap (λ (m : Made). m.state) now) in
-    let made = ap (λ (r : Single). r.made) counted in
-    let last = ap (λ (r : Single). r.last) counted in (
-      Instr 1,
-      (has_turn p over fault, budget),
-      (λ i. record { state = state i; made = made i; last = last i }),
-      ap (λ (m : Made). lines m.report (state_of q).memory) now ∙ no_lines 1 (state_of q).memory,
-    )
+pub owed_state : (p : Engine) → (owed_of p).state ≡ (owed_by order p.kernel).state
+unfolding owed_of
+owed_state p = refl
 
--- an instruction with lines
-pub made_turn : (p r : Single) (report : Report) → p.over ≡ None → p.fault ≡ None → p.made < p.settings.budget
-    → made_of r report ≡ instruction built (state_of p) 1 → r.made ≡ p.made + 1 → r.last ≡ Some 1
-    → IsReadable report r.memory → (report.head ≡ QuietHead → ⊥) → IsTurn p.settings (moment_of p) (MadeTurn report) (moment_of r)
-unfolding state_of
-made_turn p r report over fault budget now made last readable told = (
-  Instr 1,
-  (has_turn p over fault, budget),
-  (λ i. record { state = (now i).state; made = made i; last = last i }),
-  ap (λ (m : Made). m.report) now,
-  readable,
-  told,
-)
+pub moment_state : (p : Engine) → p.kernel.rest.items ≡ [] → (moment_of p).state ≡ view order p.kernel.tables
+moment_state p idle = owed_state p ∙ rest_state order p.kernel idle
 
--- a call
-pub call_made : (p q : Single) (now : Made) → IsCounted p q → HasEffect (effect p.pc p.x p.memory) Ecall p.pc p.x p.memory q.pc q.x q.memory
-    → now ≡ call built.calls (state_of q) 1 (call_number (registers_of q)) (arguments (registers_of q)) → now ≡ instruction built (state_of p) 1
-call_made p q now counted h e =
-    let it = calls (effect p.pc p.x p.memory) p.pc p.x p.memory q.pc q.x q.memory h in
-    let registers = still_registers p q it.1 in
-    let called : State → Registers → Made = λ s r. call built.calls s 1 (call_number r) (arguments r) in
-    e
-    ∙ ap (λ (s : State). called s (registers_of q)) (still_state p q counted it.1)
-    ∙ ap (λ (r : Registers). called (state_of p) r) (registers ∙ sym (registers_are p))
-    ∙ sym (by p ∙ ap (by_effect built (state_of p) 1) it.0)
+there_by : (standing : ThreadStanding) → is_ready standing ≡ true → not (is_absent standing) ≡ true
+there_by Absent e = let h : false ≡ true = e in absurd (cc)
+there_by Ready e = refl
+there_by (Waits wait) e = refl
+there_by (Ended value) e = refl
 
--- a fault
-pub fault_told : (p q : Single) (sig : ℕ) (now : Made) → IsCounted p q → HasEffect (effect p.pc p.x p.memory) (FaultEvent sig) p.pc p.x p.memory q.pc q.x q.memory
-    → now ≡ faulted (state_of q) 1 sig → now ≡ instruction built (state_of p) 1
-fault_told p q sig now counted h e =
-    let it = faults (effect p.pc p.x p.memory) sig p.pc p.x p.memory q.pc q.x q.memory h in
-    e ∙ ap (λ (s : State). faulted s 1 sig) (still_state p q counted it.1) ∙ sym (by p ∙ ap (by_effect built (state_of p) 1) it.0)
+-- the chosen thread is ready
+pub chosen_listed : (s : State) (t : ℕ) → IsGood s → chosen s ≡ Some t → IsListed s t
+unfolding chosen
+chosen_listed s t good first =
+    let listed = first_in (eff s) s.ready t first in
+    let ready = sym (good.listed t) ∙ listed in
+    (there_by (s.threads t).standing ready, listed, ready)
 
--- a special return, which is not due
-pub return_told : (p q : Single) (which : Special) (sig : ℕ) (now : Made) → IsCounted p q → HasEffect (effect p.pc p.x p.memory) (ReturnEvent which) p.pc p.x p.memory q.pc q.x q.memory
-    → sig ≡ segmentation_fault → now ≡ faulted (state_of q) 1 sig → now ≡ instruction built (state_of p) 1
-return_told p q which sig now counted h same e =
-    let it = returns (effect p.pc p.x p.memory) which p.pc p.x p.memory q.pc q.x q.memory h in
-    e
-    ∙ ap (λ (n : ℕ). faulted (state_of q) 1 n) same
-    ∙ ap (λ (s : State). faulted s 1 segmentation_fault) (still_state p q counted it.1)
-    ∙ sym (by p ∙ ap (by_effect built (state_of p) 1) it.0)
+-- where nothing pends, no delivery is next
+pub calm_next : (s : State) → s.pending ≡ none_pending → next_delivery s ≡ None
+calm_next s calm = next_none s (λ t sig. ap (λ (m : ℕ → ℕ → ℕ). m t sig) calm)
 
--- a fault of either kind
-pub fault_made_by : (p q : Single) (sig : ℕ) (now : Made) → IsCounted p q → FaultsBy p sig q → now ≡ faulted (state_of q) 1 sig → now ≡ instruction built (state_of p) 1
-fault_made_by p q sig now counted (inl h) e = fault_told p q sig now counted h e
-fault_made_by p q sig now counted (inr h) e = return_told p q h.0 sig now counted h.1 h.2 e
+-- a thread has its turn
+pub has_turn : (s : State) (t : ℕ) → s.over ≡ None → s.pending ≡ none_pending → chosen s ≡ Some t → IsTurnOf s t
+has_turn s t over calm first = record { going_on = over; settled = calm_next s calm; first = first }
 
--- a delivery
-pub delivery_turn : (p r : Single) (sig : ℕ) (report : Report) → p.over ≡ None → p.fault ≡ Some sig → IsInScope sig
-    → made_of r report ≡ deliver (state_of p) → r.made ≡ p.made → r.last ≡ p.last
-    → IsReadable report r.memory → (report.head ≡ QuietHead → ⊥) → IsTurn p.settings (moment_of p) (MadeTurn report) (moment_of r)
-unfolding state_of
-delivery_turn p r sig report over fault scope now made last readable told = (
-  Deliver,
-  (over, record { thread = 1; signal = sig }, fault_is_next p sig scope fault),
-  (λ i. record { state = (now i).state; made = made i; last = last i }),
-  ap (λ (m : Made). m.report) now,
-  readable,
-  told,
-)
+-- the thread that is chosen stays the chosen one over a plain instruction
+chosen_stays : (s r : State) (p : ℕ → ℕ) → IsGood s → AreCurrent p s → AreCurrent p r → r.ready ≡ s.ready → chosen r ≡ chosen s
+chosen_stays s r p good old new ready =
+    sym (chosen_is r p (subst IsOrder (sym ready) good.order) new) ∙ ap (λ xs. first_greatest p xs) ready ∙ chosen_is s p good.order old
 
--- the run is over
-pub over_ends : (p : Single) (ending : Ending) → p.over ≡ Some ending → Ends (program p.settings) (moment_of p) ending
-unfolding state_of
-over_ends p ending e = inl e
+plain_current : (s : State) (t : ℕ) (registers : Registers) (memory : List ℕ) (p : ℕ → ℕ) → AreCurrent p s
+    → AreCurrent p (record (set_registers s t registers) { memory = memory })
+unfolding AreCurrent
+plain_current s t registers memory p current = kept_current s t (record (s.threads t) { registers = registers }) s.ready p current refl (λ u h. h)
 
--- the budget is used up
-pub budget_ends : (p : Single) → p.over ≡ None → p.fault ≡ None → p.made ≡ p.settings.budget → Ends (program p.settings) (moment_of p) Budget
-budget_ends p over fault made = inr (inr (refl, record { used_up = made; tid = 1; turn = has_turn p over fault }))
+-- a process with a move in progress
+sound_in_call : (q : Engine) (delivers : Bool) → q.made ≤ q.settings.budget → q.settings.budget ≤ 1000000000 → (g : Made) → owed_of q ≡ g → IsGood g.state → IsTame delivers g
+    → AreCurrent (level_of q.kernel.tables.ready) (view order q.kernel.tables) → is_nil q.kernel.rest.items ≡ false
+    → AllCan (made order q.kernel.tables) q.kernel.rest.items → q.standing ≡ InCall → IsSound q
+unfolding owed_of
+sound_in_call q delivers within limit g is good tame current begun can calling =
+    let call : IsInCall order q.kernel = record {
+      begun = begun;
+      can = can;
+      readable = subst (λ (x : Made). IsReadable x.report x.state.memory) (sym is) tame.readable;
+    } in
+    record {
+      within = within;
+      limit = limit;
+      good = subst (λ (x : Made). IsGood x.state) (sym is) good;
+      settled = subst (λ (x : Made). IsSettled x.state) (sym is) tame.settled;
+      current = current;
+      stands = subst (Stands order q.kernel q.last) (sym calling) call;
+    }
 
--- what was counted keeps the rest
-pub counted_settings : (p q : Single) → IsCounted p q → q.settings ≡ p.settings
-counted_settings p q counted = ap (λ (r : Single). r.settings) counted
+-- an instruction of a thread that has its turn
+module _ (p : Engine) (t : ℕ) (sound : IsSound p) (rest : IsAtRest p.kernel) (over : (view order p.kernel.tables).over ≡ None)
+    (calm : (view order p.kernel.tables).pending ≡ none_pending) (first : chosen (view order p.kernel.tables) ≡ Some t) (room : p.made < p.settings.budget) where
+  was : State
+  was = view order p.kernel.tables
 
-counted_in_call : (p q : Single) → CanGo p → IsCounted p q → IsInCall q
-counted_in_call p q go counted = record { fault = ap (λ (r : Single). r.fault) counted ∙ go.fault; last = ap (λ (r : Single). r.last) counted }
+  here : (moment_of p).state ≡ view order p.kernel.tables
+  here = moment_state p rest.idle
 
--- a move that is still to be told can be told
-pub can_tell : (p : Single) (cause : Cause) (q : Single) → Advanced p cause q → CanTell cause q
-can_tell p Call q h = counted_in_call p q h.0 h.1
-can_tell p (Fault sig) q h = (counted_in_call p q h.0 h.1, ap (λ (r : Single). r.over) h.1 ∙ h.0.over)
-can_tell p (Delivery sig) q h = (ap (λ (r : Single). r.fault) h.2 ∙ h.1, ap (λ (r : Single). r.last) h.2 ∙ h.3)
+  good_here : IsGood (view order p.kernel.tables)
+  good_here = subst IsGood (rest_state order p.kernel rest.idle) sound.good
 
-pub same_settings : (p : Single) (cause : Cause) (q : Single) → Advanced p cause q → q.settings ≡ p.settings
-same_settings p Call q h = counted_settings p q h.1
-same_settings p (Fault sig) q h = counted_settings p q h.1
-same_settings p (Delivery sig) q h = ap (λ (r : Single). r.settings) h.2
+  allowed : Allowed (program p.settings) (moment_of p) (Instr t)
+  allowed = (subst (λ s. IsTurnOf s t) (sym here) (has_turn (view order p.kernel.tables) t over calm first), room)
 
--- a standing that makes no instruction
-pub waits : (p : Single) (s : Standing) (came : Came) → p.last ≡ last_of s → p.fault ≡ fault_of s → p.over ≡ over_of s → came_of s ≡ Some came → Advances p came p
-waits p New came last fault over e = let x : None ≡ Some came = e in cc
-waits p Going came last fault over e = let x : None ≡ Some came = e in cc
-waits p (Faulted sig) came last fault over e =
-    let same : Told (Delivery sig) ≡ came = (let x : Some (Told (Delivery sig)) ≡ Some came = e in cc) in
-    let here : Advances p (Told (Delivery sig)) p = (over, fault, refl, last) in
-    subst (λ (x : Came). Advances p x p) same here
-waits p (Over ending) came last fault over e =
-    let same : End ending ≡ came = (let x : Some (End ending) ≡ Some came = e in cc) in
-    let here : Advances p (End ending) p = (over_ends p ending over, fault, refl) in
-    subst (λ (x : Came). Advances p x p) same here
+  good_after : IsGood (instruction built (view order p.kernel.tables) t).state
+  good_after =
+      subst (λ s. IsGood (instruction built s t).state) here
+      (goodness.1 (program p.settings) (moment_of p) (Instr t) (subst IsGood (sym (owed_state p)) sound.good) allowed)
 
--- a standing that goes on
-pub goes : (s : Standing) → came_of s ≡ None → (over_of s ≡ None) × (fault_of s ≡ None)
-goes New e = (refl, refl)
-goes Going e = (refl, refl)
-goes (Faulted sig) e = let x : Some (Told (Delivery sig)) ≡ None = e in cc
-goes (Over ending) e = let x : Some (End ending) ≡ None = e in cc
+  -- the instruction as the move makes it
+  module _ (q : Engine) (one_more : q.made ≡ p.made + 1) (by : q.last ≡ Some t) where
+    leads : (owed_of q).state ≡ (instruction built (view order p.kernel.tables) t).state → moment_of q ≡ moved built (moment_of p) (Instr t)
+    leads e =
+        let state = e ∙ ap (λ s. (instruction built s t).state) (sym here) in
+        λ i. record { state = state i; made = one_more i; last = by i }
+
+  -- a plain one
+  module _ (q : Engine) (one_more : q.made ≡ p.made + 1) (by : q.last ≡ Some t)
+      (executed : HasExecuted (view order p.kernel.tables) t Next (view order q.kernel.tables)) (idle : q.kernel.rest.items ≡ []) where
+    went : instruction built (view order p.kernel.tables) t ≡ went_on (view order p.kernel.tables) t executed.0 executed.1
+    unfolding instruction
+    went = ap (by_effect built (view order p.kernel.tables) t) executed.2
+
+    after : (owed_of q).state ≡ (instruction built (view order p.kernel.tables) t).state
+    after = moment_state q idle ∙ executed.3 ∙ sym (ap (λ (g : Made). g.state) went)
+
+    pub plain : q.standing ≡ Going → MakesPlain p q
+    plain going = record {
+      move = Instr t;
+      allowed = allowed;
+      leads = leads q one_more by after;
+      silent =
+          ap (λ s. lines (instruction built s t).report (moment_of q).state.memory) here
+          ∙ ap (λ (g : Made). lines g.report (moment_of q).state.memory) went
+          ∙ no_lines t (moment_of q).state.memory;
+      counts = instr_counts p t q.last Quiet by (ap (λ s. (instruction built s t).report.head) here ∙ ap (λ (g : Made). g.report.head) went ∙ quiet_head t) refl;
+      standing = going;
+    }
+
+    pub plain_sound : q.settings ≡ p.settings → q.kernel.tables.report ≡ p.kernel.tables.report → q.kernel.tables.ready ≡ p.kernel.tables.ready
+        → q.kernel.tables.placed ≡ t → q.standing ≡ Going → IsSound q
+    plain_sound settings report ready placed going =
+        let prios = ap level_of ready in
+        let s = view order p.kernel.tables in
+        let r = view order q.kernel.tables in
+        let current : AreCurrent (level_of q.kernel.tables.ready) r =
+        moved_current (level_of p.kernel.tables.ready) (level_of q.kernel.tables.ready) _ r prios executed.3
+        (plain_current s t executed.0 executed.1 (level_of p.kernel.tables.ready) sound.current) in
+        let over_now : r.over ≡ None = ap (λ (x : State). x.over) executed.3 ∙ over in
+        let turn : HasTurn order q.kernel = record {
+          going_on = over_now;
+          calm = ap (λ (x : State). x.pending) executed.3 ∙ calm;
+          first =
+              chosen_stays s r (level_of q.kernel.tables.ready) good_here (subst (λ f. AreCurrent f s) (sym prios) sound.current) current (ap (λ (x : State). x.ready) executed.3)
+              ∙ first ∙ ap Some (sym placed);
+        } in
+        let at_rest : IsAtRest q.kernel = record { idle = idle; untold = report ∙ rest.untold } in
+        record {
+          within = (let e = one_more in let f = ap (λ (x : Settings). x.budget) settings in omega (arith, e, f, room));
+          limit = subst (λ (x : Settings). x.budget ≤ 1000000000) (sym settings) sound.limit;
+          good = subst IsGood (sym (sym (owed_state q) ∙ after)) good_after;
+          settled = inl (ap (λ (x : State). x.over) (rest_state order q.kernel idle) ∙ over_now);
+          current = current;
+          stands = subst (Stands order q.kernel q.last) (sym going) (at_rest, turn, by ∙ ap Some (sym placed));
+        }
+
+  -- one whose move is begun
+  module _ (q : Engine) (one_more : q.made ≡ p.made + 1) (by : q.last ≡ Some t)
+      (k : Kernel Queue) (same : view order k.tables ≡ view order p.kernel.tables) (begun : IsBegun order k q.kernel (instruction built (view order k.tables) t)) where
+    owed_is : owed_of q ≡ instruction built (view order p.kernel.tables) t
+    unfolding owed_of
+    owed_is = begun.owed ∙ ap (λ s. instruction built s t) same
+
+    pub begins : IsTame false (instruction built (view order p.kernel.tables) t) → q.standing ≡ InCall → BeginsMove p q
+    begins tame calling = record {
+      move = Instr t;
+      allowed = allowed;
+      leads = leads q one_more by (ap (λ (g : Made). g.state) owed_is);
+      told = ap (λ (g : Made). g.report) owed_is ∙ ap (λ s. (instruction built s t).report) (sym here);
+      main = λ h. tame.main (sym (ap (λ (g : Made). g.report.head) owed_is) ∙ h);
+      counts =
+          instr_counts p t q.last (owed_of q).report.head by
+          (ap (λ s. (instruction built s t).report.head) here ∙ sym (ap (λ (g : Made). g.report.head) owed_is))
+          (ap (λ (g : Made). is_delivery g.report.head) owed_is ∙ tame.kind);
+      standing = calling;
+    }
+
+    pub begun_sound : IsTame false (instruction built (view order p.kernel.tables) t) → q.settings ≡ p.settings → k.tables.ready ≡ p.kernel.tables.ready → q.standing ≡ InCall → IsSound q
+    begun_sound tame settings ready calling =
+        let prios : level_of q.kernel.tables.ready ≡ level_of p.kernel.tables.ready =
+        ap (λ x. level_of x.ready) begun.tables ∙ ap level_of ready in
+        let here_now : view order q.kernel.tables ≡ view order p.kernel.tables = ap (view order) begun.tables ∙ same in
+        sound_in_call q false
+        (let e = one_more in let f = ap (λ (x : Settings). x.budget) settings in omega (arith, e, f, room))
+        (subst (λ (x : Settings). x.budget ≤ 1000000000) (sym settings) sound.limit)
+        (instruction built (view order p.kernel.tables) t) owed_is good_after tame
+        (moved_current (level_of p.kernel.tables.ready) (level_of q.kernel.tables.ready) (view order p.kernel.tables) (view order q.kernel.tables) prios here_now sound.current)
+        begun.begun begun.can calling
+
+-- the delivery of a fault's signal is begun
+module _ (p q : Engine) (t sig : ℕ) (sound : IsSound p) (rest : IsAtRest p.kernel) (over : (view order p.kernel.tables).over ≡ None)
+    (next : next_delivery (view order p.kernel.tables) ≡ Some (record { thread = t; signal = sig })) (pending : (view order p.kernel.tables).pending ≡ one_pending t sig)
+    (begun : IsBegun order p.kernel q.kernel (deliver (view order p.kernel.tables))) (count : q.made ≡ p.made) (by : q.last ≡ p.last) (calling : q.standing ≡ InCall) where
+  here_too : (moment_of p).state ≡ view order p.kernel.tables
+  here_too = moment_state p rest.idle
+
+  can_deliver : Allowed (program p.settings) (moment_of p) Deliver
+  can_deliver =
+      (ap (λ (s : State). s.over) here_too ∙ over, record { thread = t; signal = sig }, ap next_delivery here_too ∙ next)
+
+  delivered_is : owed_of q ≡ deliver (view order p.kernel.tables)
+  unfolding owed_of
+  delivered_is = begun.owed
+
+  pub delivers : BeginsMove p q
+  delivers =
+      let state = ap (λ (g : Made). g.state) delivered_is ∙ ap (λ s. (deliver s).state) (sym here_too) in
+      record {
+        move = Deliver;
+        allowed = can_deliver;
+        leads = λ i. record { state = state i; made = count i; last = by i };
+        told = ap (λ (g : Made). g.report) delivered_is ∙ ap (λ s. (deliver s).report) (sym here_too);
+        main = λ h. (delivery_tame (view order p.kernel.tables) t sig next pending).main (sym (ap (λ (g : Made). g.report.head) delivered_is) ∙ h);
+        counts = deliver_counts p q.last (owed_of q).report.head by
+            (ap (λ (g : Made). is_delivery g.report.head) delivered_is ∙ (delivery_tame (view order p.kernel.tables) t sig next pending).kind);
+        standing = calling;
+      }
+
+  pub delivers_sound : q.settings ≡ p.settings → IsSound q
+  delivers_sound settings =
+      let prios : level_of q.kernel.tables.ready ≡ level_of p.kernel.tables.ready = ap (λ x. level_of x.ready) begun.tables in
+      let good : IsGood (deliver (view order p.kernel.tables)).state =
+      subst (λ s. IsGood (deliver s).state) here_too
+      (goodness.1 (program p.settings) (moment_of p) Deliver (subst IsGood (sym (owed_state p)) sound.good) can_deliver) in
+      sound_in_call q true
+      (let e = count in let f = ap (λ (x : Settings). x.budget) settings in let g = sound.within in omega (arith, e, f, g))
+      (subst (λ (x : Settings). x.budget ≤ 1000000000) (sym settings) sound.limit)
+      (deliver (view order p.kernel.tables)) delivered_is good (delivery_tame (view order p.kernel.tables) t sig next pending)
+      (moved_current (level_of p.kernel.tables.ready) (level_of q.kernel.tables.ready) (view order p.kernel.tables) (view order q.kernel.tables) prios (ap (view order) begun.tables) sound.current)
+      begun.begun begun.can calling
+
+over_calm : (s : State) (ending : Ending) → IsSettled s → s.over ≡ Some ending → s.pending ≡ none_pending
+over_calm s ending (inl none) over = absurd (let e : None ≡ Some ending = sym none ∙ over in cc)
+over_calm s ending (inr calm) over = calm
+
+-- the run has ended
+ended_here : (p : Engine) (ending : Ending) → (rest : IsAtRest p.kernel) → (view order p.kernel.tables).pending ≡ none_pending → Ends (program p.settings) (moment_of p) ending → HasEnded p p ending
+ended_here p ending rest calm ends = record {
+  ends = ends;
+  calm = ap (λ (s : State). s.pending) (moment_state p rest.idle) ∙ calm;
+  same = refl;
+}
+
+pub is_over : (p : Engine) (ending : Ending) → IsSound p → IsAtRest p.kernel → (view order p.kernel.tables).over ≡ Some ending → HasEnded p p ending
+is_over p ending sound rest over =
+    let calm : (view order p.kernel.tables).pending ≡ none_pending =
+    over_calm (view order p.kernel.tables) ending (subst IsSettled (rest_state order p.kernel rest.idle) sound.settled) over in
+    ended_here p ending rest calm (inl (ap (λ (s : State). s.over) (moment_state p rest.idle) ∙ over))
+
+pub is_idle : (p : Engine) → IsAtRest p.kernel → (view order p.kernel.tables).over ≡ None → (view order p.kernel.tables).pending ≡ none_pending
+    → chosen (view order p.kernel.tables) ≡ None → HasEnded p p Idle
+is_idle p rest over calm nobody =
+    let s = view order p.kernel.tables in
+    ended_here p Idle rest calm
+    (inr (inl (refl, subst IsIdle (sym (moment_state p rest.idle)) (record { going_on = over; settled = calm_next s calm; nobody = nobody }))))
+
+pub is_spent : (p : Engine) (t : ℕ) → IsAtRest p.kernel → (view order p.kernel.tables).over ≡ None → (view order p.kernel.tables).pending ≡ none_pending
+    → chosen (view order p.kernel.tables) ≡ Some t → p.made ≡ p.settings.budget → HasEnded p p Budget
+is_spent p t rest over calm first spent =
+    let s = view order p.kernel.tables in
+    ended_here p Budget rest calm
+    (inr (inr (refl, record { used_up = spent; tid = t; turn = subst (λ x. IsTurnOf x t) (sym (moment_state p rest.idle)) (has_turn s t over calm first) })))
+
+-- where nothing pends, nothing is left
+pub none_is_left : (s : State) → s.pending ≡ none_pending → left s ≡ replicate 32 0
+none_is_left s calm = left_none s (λ t sig. ap (λ (m : ℕ → ℕ → ℕ). m t sig) calm)

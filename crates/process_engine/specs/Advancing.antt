@@ -1,58 +1,61 @@
--- How far the engine has come with a move before its report is made.
-use Rattle.std.specs.Prelude.{ℕ, ◌≡◌, ◌⊎◌, ◌+◌, ◌<◌, Some, None}
-use Rattle.rv_exec.specs.Meaning.{effect}
-use Rattle.rv_exec.specs.Outcome.{HasEffect}
-use Rattle.rv_exec.specs.declared.Event.{Event}
-use Rattle.rv_exec.specs.declared.Event.TheVariants.{Ecall, Fault as FaultEvent, Return}
-use Rattle.rv_exec.specs.declared.Special.{Special}
-use Rattle.posix_model.specs.Instructions.{segmentation_fault}
-use Rattle.posix_model.specs.Runs.{Ends}
-use Rattle.process_engine.specs.Program.{program}
-use Rattle.process_engine.specs.Single.{Single, moment_of}
-use Rattle.process_engine.specs.Turns.{IsTurn}
-use Rattle.process_engine.specs.declared.Turn.TheVariants.{Quiet}
-use Rattle.process_engine.specs.declared.moves.Cause.{Cause}
-use Rattle.process_engine.specs.declared.moves.Cause.TheVariants.{Call, Fault, Delivery}
-use Rattle.process_engine.specs.declared.moves.Came.{Came}
-use Rattle.process_engine.specs.declared.moves.Came.TheVariants.{Plain, Told, End}
+-- How the engine goes on by one move.
+use Rattle.std.specs.Prelude.{◌≡◌, List, []}
+use Rattle.posix_model.specs.State.{none_pending}
+use Rattle.posix_model.specs.Runs.{Moment, Allowed, IsRun, Ends, make, moved, after}
+use Rattle.posix_model.specs.Trace.{text}
+use Rattle.posix_model.specs.declared.Settings.{Settings}
+use Rattle.posix_model.specs.Lines.{lines}
+use Rattle.posix_model.specs.declared.Move.{Move}
+use Rattle.posix_model.specs.declared.Ending.{Ending}
+use Rattle.posix_model.specs.declared.Head.TheVariants.{Quiet}
+use Rattle.trace_text.specs.Counting.{no_counts, counted, counts, told_of, told_by}
+use Rattle.process_engine.specs.Program.{built, program}
+use Rattle.process_engine.specs.Engine.{Engine, moment_of, owed_of}
+use Rattle.process_engine.specs.declared.standing.Came.{Came}
+use Rattle.process_engine.specs.declared.standing.Came.TheVariants.{Plain, Switched, Begun, End}
+use Rattle.process_engine.specs.declared.standing.Standing.TheVariants.{Going, InCall}
 
--- an instruction has its turn
-pub record CanGo (p : Single) : Type 0 where
-  pub over : p.over ≡ None
-  pub fault : p.fault ≡ None
-  pub budget : p.made < p.settings.budget
+-- a move was made that has its turn and no lines
+pub record MakesPlain (p q : Engine) : Type 0 where
+  pub move : Move
+  pub allowed : Allowed (program p.settings) (moment_of p) move
+  pub leads : moment_of q ≡ moved built (moment_of p) move
+  pub silent : lines (make built (moment_of p).state move).report (moment_of q).state.memory ≡ []
+  pub counts : told_of (counted built (moment_of p) move) ≡ told_by p.last q.last Quiet
+  pub standing : q.standing ≡ Going
 
--- an instruction was made and counted; its event tells the rest
-abbrev pub IsCounted : Single → Single → Type 0
-IsCounted p q = q ≡ record p { pc = q.pc; x = q.x; memory = q.memory; made = p.made + 1; last = Some 1 }
+-- a move was begun that has its turn, and has a main line
+pub record BeginsMove (p q : Engine) : Type 0 where
+  pub move : Move
+  pub allowed : Allowed (program p.settings) (moment_of p) move
+  pub leads : moment_of q ≡ moved built (moment_of p) move
+  pub told : (owed_of q).report ≡ (make built (moment_of p).state move).report
+  pub main : (owed_of q).report.head ≡ Quiet → ⊥
+  pub counts : told_of (counted built (moment_of p) move) ≡ told_by p.last q.last (owed_of q).report.head
+  pub standing : q.standing ≡ InCall
 
--- the instruction came to an event
-abbrev pub ComesTo : Single → Event → Single → Type 0
-ComesTo p event q = HasEffect (effect p.pc p.x p.memory) event p.pc p.x p.memory q.pc q.x q.memory
+-- the run has ended here
+pub record HasEnded (p q : Engine) (ending : Ending) : Type 0 where
+  pub ends : Ends (program p.settings) (moment_of p) ending
+  pub calm : (moment_of p).state.pending ≡ none_pending
+  pub same : q ≡ p
 
--- the instruction is a fault with this signal, or a special return, which is not due
-abbrev pub FaultsBy : Single → ℕ → Single → Type 0
-FaultsBy p sig q = ComesTo p (FaultEvent sig) q ⊎ ((which : Special) × ComesTo p (Return which) q × (sig ≡ segmentation_fault))
+-- a plain instruction was made by the thread of the last one, or by any; a move was begun; or the run has ended. It is
+-- told who made the last instruction before
+abbrev pub Advances : Engine → Came → Engine → Type 0
+Advances p Plain q = MakesPlain p q × (q.last ≡ p.last)
+Advances p (Switched before) q = MakesPlain p q × (before ≡ p.last)
+Advances p (Begun before) q = BeginsMove p q × (before ≡ p.last)
+Advances p (End ending) q = HasEnded p q ending
 
--- a move that is still to be told
-abbrev pub Advanced : Single → Cause → Single → Type 0
-Advanced p Call q = CanGo p × IsCounted p q × ComesTo p Ecall q
-Advanced p (Fault sig) q = CanGo p × IsCounted p q × FaultsBy p sig q
-Advanced p (Delivery sig) q = (p.over ≡ None) × (p.fault ≡ Some sig) × (q ≡ p) × (p.last ≡ Some 1)
+-- moves were made that write no text, and nothing is told of them
+pub record Silently (settings : Settings) (old new : Moment) : Type 0 where
+  pub moves : List Move
+  pub run : IsRun (program settings) old moves
+  pub leads : new ≡ after built old moves
+  pub silent : text built old moves ≡ []
+  pub uncounted : told_of (counts built old moves) ≡ no_counts
 
--- a move without lines was made, one is still to be told, or the run has ended
-abbrev pub Advances : Single → Came → Single → Type 0
-Advances p Plain q = IsTurn p.settings (moment_of p) Quiet (moment_of q) × (q.settings ≡ p.settings) × (q.last ≡ Some 1)
-Advances p (Told cause) q = Advanced p cause q
-Advances p (End ending) q = Ends (program p.settings) (moment_of p) ending × (p.fault ≡ None) × (q ≡ p)
-
--- an instruction was made, and nothing waits for its delivery
-pub record IsInCall (q : Single) : Type 0 where
-  pub fault : q.fault ≡ None
-  pub last : q.last ≡ Some 1
-
--- what telling a move needs
-abbrev pub CanTell : Cause → Single → Type 0
-CanTell Call q = IsInCall q
-CanTell (Fault sig) q = IsInCall q × (q.over ≡ None)
-CanTell (Delivery sig) q = (q.fault ≡ Some sig) × (q.last ≡ Some 1)
+-- moves were made that write no text, and then one more
+abbrev pub Proceeds : Engine → Came → Engine → Type 0
+Proceeds p came q = (m : Engine) × Silently p.settings (moment_of p) (moment_of m) × (m.settings ≡ p.settings) × Advances m came q

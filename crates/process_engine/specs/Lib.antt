@@ -1,5 +1,4 @@
 pub mod Program
-pub mod Single
+pub mod Engine
 pub mod Turns
 pub mod Advancing
-pub mod Standings

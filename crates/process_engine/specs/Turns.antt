@@ -1,5 +1,5 @@
 -- What a turn and a whole run of a process do.
-use Rattle.std.specs.Prelude.{ℕ, ◌≡◌, List, [], Option, Result, Ok, Err}
+use Rattle.std.specs.Prelude.{ℕ, ◌≡◌, ◌<◌, ◌⊎◌, List, [], Option, Some, None, Result, Ok, Err}
 use Rattle.replay_io.specs.Writing.{WritesWhole, WritesFront}
 use Rattle.trace_text.specs.Output.{IsReadable}
 use Rattle.posix_model.specs.Runs.{Moment, Allowed, Ends, make, moved}
@@ -9,25 +9,61 @@ use Rattle.posix_model.specs.declared.Settings.{Settings}
 use Rattle.posix_model.specs.declared.Ending.{Ending}
 use Rattle.posix_model.specs.declared.Move.{Move}
 use Rattle.posix_model.specs.declared.Head.TheVariants.{Quiet as QuietHead}
+use Rattle.posix_model.specs.declared.Report.{Report}
+use Rattle.trace_text.specs.Counting.{counts}
 use Rattle.process_engine.specs.Program.{built, program}
+use Rattle.process_engine.specs.Engine.{Course}
 use Rattle.process_engine.specs.declared.Turn.{Turn}
 use Rattle.process_engine.specs.declared.Turn.TheVariants.{Quiet, Made as MadeTurn, Ended}
 use Rattle.process_engine.specs.declared.Done.{Done}
 
--- one turn makes one move that is allowed, or tells the ending and leaves the run:
--- Quiet where the move has no lines, Made with the report of a move that has some
-abbrev pub IsTurn : Settings → Moment → Turn → Moment → Type 0
-IsTurn settings old Quiet new =
-    (move : Move) × Allowed (program settings) old move × (new ≡ moved built old move) × (lines (make built old.state move).report new.state.memory ≡ [])
-IsTurn settings old (MadeTurn report) new =
-    (move : Move) × Allowed (program settings) old move × (new ≡ moved built old move) × (report ≡ (make built old.state move).report)
-    × IsReadable report new.state.memory × (report.head ≡ QuietHead → ⊥)
-IsTurn settings old (Ended ending) new = Ends (program settings) old ending × (new ≡ old)
+-- what is to be told of a move: nothing, where it has no lines, and else its report
+abbrev pub Tells : Report → Course → Type 0
+Tells report new =
+    ((new.telling ≡ None) × (lines report new.now.state.memory ≡ []))
+    ⊎ ((new.telling ≡ Some report) × (report.head ≡ QuietHead → ⊥))
 
--- the whole text of one ended run was written
+-- one move is made that is allowed, with what is to be told of it; none was in progress
+pub record Moves (settings : Settings) (old new : Course) : Type 0 where
+  pub at_rest : old.telling ≡ None
+  pub move : Move
+  pub allowed : Allowed (program settings) old.now move
+  pub leads : new.now ≡ moved built old.now move
+  pub tells : Tells (make built old.now.state move).report new
+
+-- the run and what is to be told of the move in progress stay, and less of it is left
+pub record Leaves (old new : Course) : Type 0 where
+  pub now : new.now ≡ old.now
+  pub report : Report
+  pub before : old.telling ≡ Some report
+  pub telling : new.telling ≡ Some report
+  pub less : new.left < old.left
+
+-- the move in progress is told, and the run stays
+pub record Told (old : Course) (report : Report) (new : Course) : Type 0 where
+  pub now : new.now ≡ old.now
+  pub before : old.telling ≡ Some report
+  pub telling : new.telling ≡ None
+  pub readable : IsReadable report new.now.state.memory
+
+-- the run has ended, and nothing changes
+pub record Stops (settings : Settings) (old : Course) (ending : Ending) (new : Course) : Type 0 where
+  pub at_rest : old.telling ≡ None
+  pub ends : Ends (program settings) old.now ending
+  pub same : new ≡ old
+
+-- one turn makes one move that is allowed, or leaves the run, or tells the ending: Made comes exactly with the last
+-- small change of a move that has lines, with its report, and Ended exactly where the run has ended
+abbrev pub IsTurn : Settings → Course → Turn → Course → Type 0
+IsTurn settings old Quiet new = Moves settings old new ⊎ Leaves old new
+IsTurn settings old (MadeTurn report) new = Told old report new
+IsTurn settings old (Ended ending) new = Stops settings old ending new
+
+-- the whole text of one ended run was written, and its counts are told
 pub record RunsWhole (settings : Settings) (start : Moment) (done : Done) (before after : Option (List ℕ)) (faults_before faults_after : ℕ) : Type 0 where
   pub trace : List ℕ
   pub whole : IsWholeText (program settings) start done.ending trace
+  pub counted : done.counts ≡ counts built start whole.moves
   pub written : WritesWhole before after faults_before faults_after trace
 
 -- a front of the text of a run so far was written, and then the sink failed

@@ -1,45 +1,75 @@
 ghost use Rattle.std.specs.Prelude.{◌≡◌};
-ghost use Rattle.process_engine.specs.Standings.{came_of};
+ghost use Rattle.rv_exec.specs.declared.Event.TheVariants.{Next};
+ghost use Rattle.posix_model.specs.Calls as calls;
+ghost use Rattle.posix_model.specs.Instructions.{instruction};
+ghost use Rattle.kernel_state.specs.View.{view};
+ghost use Rattle.kernel_state.specs.Begun.{CanBegin, IsBegun, arguments_of};
+ghost use Rattle.kernel_state.specs.Executing.{HasExecuted};
+ghost use Rattle.process_engine.specs.Program.{built};
 
-use posix_model::Ending;
-use thread_base::Sig;
+use kernel_state::Kernel;
+use ready_queues::Ready;
+use rv_exec::Event;
+use thread_base::{CallNo, Tid};
 
-/// Where a process stands: nothing was made yet, it goes on, the signal of a fault waits for its delivery,
-/// or it is over.
-#[derive(Clone, Copy, Debug, PartialEq, Eq)]
-pub(crate) enum Standing {
-    New,
-    Going,
-    Faulted(Sig),
-    Over(Ending),
+/// The number of the call that writes.
+const WRITE: u32 = 64;
+
+/// The number of the call that ends the process.
+const EXIT: u32 = 93;
+
+/// The numbers of the first and the last call of threads.
+const CREATE: u32 = 256;
+
+const YIELD: u32 = 261;
+
+/// Begins the call of a number, of a thread that is ready.
+fn begin_number<R: Ready + Drop>(k: &mut Kernel<R>, t: Tid, number: u32, args: [u32; 4])
+    requires { CanBegin R.order k.old t }
+    ensures { IsBegun R.order k.old k.new (calls.call built.calls (view R.order k.old.tables) t number (arguments_of args)) }
+{
+    match CallNo::new(number) {
+        Some(call) => begin_known(k, t, call, args),
+        None => calls_thread::begin_unknown(k, t, number, args),
+    }
 }
 
-/// What a move still asks for, with its report: a call, a fault's signal that pends from now on, or the
-/// delivery of a fault's signal.
-#[derive(Clone, Copy, Debug, PartialEq, Eq)]
-pub(crate) enum Cause {
-    Call,
-    Fault(Sig),
-    Delivery(Sig),
+/// Begins a call that the table has; one that is not built answers as one that it does not have.
+#[tactic(auto, unfolding(posix_model::specs::Calls::call_row))]
+fn begin_known<R: Ready + Drop>(k: &mut Kernel<R>, t: Tid, call: CallNo, args: [u32; 4])
+    requires { CanBegin R.order k.old t }
+    ensures { IsBegun R.order k.old k.new (calls.call built.calls (view R.order k.old.tables) t call (arguments_of args)) }
+{
+    let number = call.number();
+    if number == WRITE {
+        calls_signal::begin(k, t, call, args);
+    } else if number == EXIT || (CREATE <= number && number <= YIELD) {
+        calls_thread::begin(k, t, call, args);
+    } else {
+        calls_thread::begin_unknown(k, t, number, args);
+    }
 }
 
-/// What going on came to: a move without lines was made, a move is told with its report, or the run has ended.
-#[derive(Clone, Copy, Debug, PartialEq, Eq)]
-pub(crate) enum Came {
-    Plain,
-    Told(Cause),
-    End(Ending),
+/// Begins the call at which a thread stands that is ready: its number stands in a7, its arguments in a0 to a3.
+fn begin_call<R: Ready + Drop>(k: &mut Kernel<R>, t: Tid)
+    requires { CanBegin R.order k.old t }
+    ensures { IsBegun R.order k.old k.new (calls.call built.calls (view R.order k.old.tables) t (calls.call_number ((view R.order k.old.tables).threads t).registers) (calls.arguments ((view R.order k.old.tables).threads t).registers)) }
+{
+    let x = k.tables().there(t).regs.x;
+    begin_number(k, t, x[17], [x[10], x[11], x[12], x[13]]);
 }
 
-impl Standing {
-    /// What a turn comes to that makes no instruction.
-    pub(crate) fn came(self) -> Option<Came>
-        ensures { result ≡ came_of self }
-    {
-        match self {
-            Standing::New | Standing::Going => None,
-            Standing::Faulted(sig) => Some(Came::Told(Cause::Delivery(sig))),
-            Standing::Over(ending) => Some(Came::End(ending)),
-        }
+/// Begins the move of an instruction that was no plain one, as its event tells, of a thread that is ready.
+pub(crate) fn begin_move<R: Ready + Drop>(k: &mut Kernel<R>, t: Tid, event: Event)
+    requires ready { CanBegin R.order k.old t }
+    requires event { HasExecuted (view R.order k.old.tables) t event (view R.order k.old.tables) }
+    requires asks { event ≡ Next → ⊥ }
+    ensures { IsBegun R.order k.old k.new (instruction built (view R.order k.old.tables) t) }
+{
+    match event {
+        Event::Next => unreachable!(),
+        Event::Ecall => begin_call(k, t),
+        Event::Fault(signal) => calls_thread::begin_fault(k, t, signal),
+        Event::Return(which) => calls_thread::begin_return(k, t, which),
     }
 }

@@ -1,73 +1,57 @@
-ghost use Rattle.std.specs.Prelude.{◌≡◌, ◌<◌, ◌≤◌, ◌+◌, ◌++◌, ℕ, IfOk, Some, None, IsTrue, replicate, length};
-ghost use Rattle.posix_model.specs.Runs as runs;
+ghost use Rattle.std.specs.Prelude.{◌≡◌, ◌<◌, ◌≤◌, ◌++◌, ℕ, IfOk, None, replicate};
 ghost use Rattle.posix_model.specs.Start.{start};
-ghost use Rattle.posix_model.specs.Trace.{left, is_last, switch_line};
+ghost use Rattle.posix_model.specs.Trace.{switch_line};
 ghost use Rattle.posix_model.specs.Lines.{lines};
-ghost use Rattle.posix_model.specs.declared.Ending.{Ending};
+ghost use Rattle.posix_model.specs.State.{none_pending};
+ghost use Rattle.posix_model.specs.Scheduling.{chosen};
 ghost use Rattle.replay_io.specs.Writing.{Writes};
-ghost use Rattle.posix_model.specs.Deliveries.{faulted, deliver};
-ghost use Rattle.posix_model.specs.Changes.{reply};
-ghost use Rattle.posix_model.specs.Calls as calls;
-ghost use Rattle.rv_exec.specs.Window.{fits, is_inside};
-ghost use Rattle.rv_exec.specs.Meaning.{effect};
-ghost use Rattle.thread_base.specs.Numbers.{IsInScope};
-ghost use Rattle.rv_exec.specs.Outcome.{HasEffect};
 ghost use Rattle.trace_text.specs.Output.{IsReadable};
-ghost use Rattle.process_engine.specs.Program.{built};
-ghost use Rattle.process_engine.specs.Single.{Single, KeepsRest, state_of, moment_of, registers_of, called_of, made_of};
+ghost use Rattle.process_engine.specs.Engine.{Engine, course_of, moment_of, owed_of, order};
 ghost use Rattle.process_engine.specs.Turns.{IsTurn, Goes, Runs};
-ghost use Rattle.process_engine.specs.Advancing.{CanGo, CanTell, IsInCall, Advanced, Advances};
+ghost use Rattle.process_engine.specs.Advancing.{Advances, Proceeds};
+ghost use Rattle.kernel_state.specs.View.{view};
 
-use crate::calls::{Answer, MOST_WRITTEN, answer_registers, output};
-use crate::moves::{Came, Cause, Standing};
+use crate::moves::begin_move;
+use crate::standing::{Came, Standing};
+use crate::told::{is_thread, with_move};
 use crate::{Done, Turn, WriteFault};
 use elf_image::EntryPoint;
-use posix_model::{Arguments, Ending, Head, Reply, Report, Settings};
+use kernel_state::{Kernel, Stepped};
+use posix_model::{Ending, Head, Report, Settings};
+use ready_queues::PlainReady;
 use replay_io::{Sink, SinkFailed};
-use rv_exec::{BASE, Event, Memory, Regs, exec};
+use rv_exec::{Event, Memory};
 use std::alloc::Global;
 use std::marker::Model;
-use thread_base::{Errno, NoMemory, Sig, Tid};
-use trace_text::{Mode, put_end, put_report, put_run};
+use thread_base::{NoMemory, Tid};
+use trace_text::{Counts, Mode, put_end, put_report, put_run};
 
-/// The number of the call that writes.
-const WRITE: u32 = 64;
-
-/// The number of the call that ends the process.
-const EXIT: u32 = 93;
-
-/// The signal of a special return that is not due.
-const SIGSEGV: u32 = 11;
-
-/// A process of one thread, with its memory and what its run has come to.
-#[derive(Debug, Drop)]
+/// A process: its kernel, and what its run has come to. Clauses see its course: the run so far with the move in
+/// progress, what is still to be told of that move, and how much of it is left.
+#[derive(Drop)]
 pub struct Process {
-    pub(crate) regs: Regs,
-    pub(crate) mem: Memory,
+    kernel: Kernel<PlainReady>,
     made: u64,
+    last: Option<Tid>,
     standing: Standing,
     settings: Settings,
 }
 
 impl Model for Process {
-    ghost use Rattle.std.specs.Prelude.{◌≤◌};
-    ghost use Rattle.process_engine.specs.Program.{built};
-    ghost use Rattle.process_engine.specs.Single.{Single};
-    ghost use Rattle.process_engine.specs.Standings.{last_of, fault_of, over_of};
+    ghost use Rattle.process_engine.specs.Engine.{Engine, IsSound};
 
-    ghost Value = { Single };
+    ghost Value = { Engine };
 
-    ghost view = { λ p. record { pc = p.regs.pc; x = p.regs.x; memory = p.mem; made = p.made; last = last_of p.standing; fault = fault_of p.standing; over = over_of p.standing; settings = p.settings } };
+    ghost view = { λ p. record { kernel = p.kernel; made = p.made; last = p.last; standing = p.standing; settings = p.settings } };
 
-    ghost invariant = { λ p. (p.made ≤ p.settings.budget) × (p.settings.budget ≤ 1000000000) };
+    ghost invariant = { λ p. IsSound (record { kernel = p.kernel; made = p.made; last = p.last; standing = p.standing; settings = p.settings }) };
 }
 
 impl Process {
     /// A process at the start of its run: thread 1 stands at the entry, and the rest is as the machine's
     /// start says. The budget is at most 1,000,000,000, the quantum from 1 to 1,000. NoMemory is free.
-    #[tactic(auto, unfolding(crate::specs::Single::state_of))]
     pub fn new(
-        _alloc: Global,
+        alloc: Global,
         mem: Memory,
         entry: EntryPoint,
         settings: Settings,
@@ -75,267 +59,188 @@ impl Process {
         requires budget { settings.budget ≤ 1000000000 }
         requires quantum { (1 ≤ settings.quantum) × (settings.quantum ≤ 1000) }
         ensures start { IfOk result (λ p. moment_of p ≡ start mem entry.0) }
+        ensures at_rest { IfOk result (λ p. (course_of p).telling ≡ None) }
         ensures settings { IfOk result (λ p. p.settings ≡ settings) }
     {
-        let mut x = [0u32; 32];
-        x[1] = 0xffff_ffd0;
-        x[2] = BASE + mem.size();
         Ok(Process {
-            regs: Regs { pc: entry.0, x },
-            mem,
+            kernel: Kernel::new(alloc, PlainReady::new(alloc)?, mem, entry, settings)?,
             made: 0,
-            standing: Standing::New,
+            last: None,
+            standing: Standing::Paused,
             settings,
         })
     }
 
-    /// The arguments of the call at which thread 1 stands.
-    fn arguments(&self) -> Arguments
-        ensures { result ≡ calls.arguments (registers_of self.now) }
-    {
-        Arguments {
-            a: self.regs.x[10],
-            b: self.regs.x[11],
-            d: self.regs.x[12],
-            e: self.regs.x[13],
-        }
-    }
-
-    /// Whether the bytes of a buffer are all in the window; of none it is true.
-    #[tactic(auto, unfolding(crate::specs::Single::state_of))]
-    fn can_read(&self, addr: u32, len: u32) -> bool
-        ensures fits { result ≡ fits (length (state_of self.now).memory) addr len }
-        ensures inside { IsTrue result → 0 < len → IsTrue (is_inside (length self.now.memory) addr len) }
-    {
-        len == 0 || self.mem.has(addr, len as usize)
-    }
-
-    /// Answers the call at which thread 1 stands, and goes on behind it.
-    fn answer(&mut self, error: u32, value: u32)
-        ensures state { state_of self.new ≡ reply (state_of self.old) 1 error value }
-        ensures rest { KeepsRest self.old self.new }
-        ensures over { self.new.over ≡ self.old.over }
-    {
-        answer_registers(&mut self.regs, error, value);
-    }
-
-    /// Answers an error, and changes nothing else.
-    fn refuse(&mut self, error: Errno) -> Answer
-        ensures called { called_of self.new result ≡ calls.refused (state_of self.old) 1 error }
-        ensures rest { KeepsRest self.old self.new }
-        ensures readable { IsReadable result.report self.new.memory }
-    {
-        self.answer(error.code(), 0);
-        Answer {
-            reply: Reply::refusal(error),
-            report: Report::nothing(),
-        }
-    }
-
-    /// Writes the first bytes of a buffer to a descriptor, by POSIX.1 write.
-    fn write(&mut self, args: Arguments) -> Answer
-        ensures called { called_of self.new result ≡ calls.write (state_of self.old) 1 args }
-        ensures rest { KeepsRest self.old self.new }
-        ensures readable { IsReadable result.report self.new.memory }
-    {
-        if args.a != 1 && args.a != 2 {
-            return self.refuse(Errno::EBADF);
-        }
-        if !self.can_read(args.b, args.d) {
-            return self.refuse(Errno::EFAULT);
-        }
-        let count = args.d.min(MOST_WRITTEN);
-        self.answer(0, count);
-        Answer {
-            reply: Reply::Values(0, count),
-            report: output(args, count),
-        }
-    }
-
-    /// Ends the process.
-    #[tactic(auto, unfolding(crate::specs::Single::state_of))]
-    fn exit(&mut self, args: Arguments) -> Answer
-        requires { IsInCall self.old }
-        ensures called { called_of self.new result ≡ calls.exit (state_of self.old) 1 args }
-        ensures rest { KeepsRest self.old self.new }
-        ensures readable { IsReadable result.report self.new.memory }
-    {
-        self.standing = Standing::Over(Ending::Exit(args.a % 256));
-        Answer {
-            reply: Reply::End,
-            report: Report::nothing(),
-        }
-    }
-
-    /// Makes the call of a number.
-    #[tactic(auto, unfolding(posix_model::specs::Calls::call_row, posix_model::specs::Calls::table_row))]
-    fn row(&mut self, number: u32, args: Arguments) -> Answer
-        requires { IsInCall self.old }
-        ensures called { called_of self.new result ≡ calls.call_row built.calls (state_of self.old) 1 number args }
-        ensures rest { KeepsRest self.old self.new }
-        ensures readable { IsReadable result.report self.new.memory }
-    {
-        match number {
-            WRITE => self.write(args),
-            EXIT => self.exit(args),
-            _ => self.refuse(Errno::ENOSYS),
-        }
-    }
-
-    /// Makes the call at which thread 1 stands.
-    fn call(&mut self) -> Report
-        requires { IsInCall self.old }
-        ensures made { made_of self.new result ≡ calls.call built.calls (state_of self.old) 1 (calls.call_number (registers_of self.old)) (calls.arguments (registers_of self.old)) }
-        ensures rest { KeepsRest self.old self.new }
-        ensures readable { IsReadable result self.new.memory }
-        ensures told { result.head ≡ Head.Quiet → ⊥ }
-    {
-        let no = self.regs.x[17];
-        let args = self.arguments();
-        let answer = self.row(no, args);
-        Report {
-            tid: 1,
-            head: Head::Call {
-                no,
-                args: [args.a, args.b, args.d, args.e],
-                reply: answer.reply,
-            },
-            ..answer.report
-        }
-    }
-
-    /// Notes the fault of thread 1's instruction, whose signal pends from now on.
-    fn note_fault(&mut self, sig: Sig) -> Report
-        requires call { IsInCall self.old }
-        requires going_on { self.old.over ≡ None }
-        ensures made { made_of self.new result ≡ faulted (state_of self.old) 1 sig }
-        ensures fault { self.new ≡ record self.old { fault = Some sig } }
-        ensures readable { IsReadable result self.new.memory }
-        ensures told { result.head ≡ Head.Quiet → ⊥ }
-    {
-        self.standing = Standing::Faulted(sig);
-        Report {
-            tid: 1,
-            head: Head::Fault(sig),
-            ..Report::nothing()
-        }
-    }
-
-    /// Delivers the signal of a fault: its default action ends the process.
-    fn deliver(&mut self, sig: Sig) -> Report
-        requires fault { self.old.fault ≡ Some sig }
-        requires begun { self.old.last ≡ Some 1 }
-        ensures made { made_of self.new result ≡ deliver (state_of self.old) }
-        ensures scope { IsInScope sig }
-        ensures over { self.new ≡ record self.old { fault = None; over = Some (Ending.Killed sig) } }
-        ensures readable { IsReadable result self.new.memory }
-        ensures told { result.head ≡ Head.Quiet → ⊥ }
-    {
-        let _in_scope = sig.number();
-        self.standing = Standing::Over(Ending::Killed(sig));
-        Report {
-            tid: 1,
-            head: Head::Deliver {
-                to: 1,
-                sig,
-                count: 1,
-            },
-            ..Report::nothing()
-        }
-    }
-
-    /// Makes the instruction at which thread 1 stands, up to what its event asks for.
+    /// Makes the instruction of the thread in place, which has its turn, or begins its move.
     #[inline(always)]
-    fn step(&mut self) -> Event
-        requires { CanGo self.old }
-        ensures effect { HasEffect (effect self.old.pc self.old.x self.old.memory) result self.old.pc self.old.x self.old.memory self.new.pc self.new.x self.new.memory }
-        ensures counted { self.new ≡ record self.old { pc = self.new.pc; x = self.new.x; memory = self.new.memory; made = self.old.made + 1; last = Some 1 } }
+    fn instruction(&mut self) -> Came
+        requires { self.old.standing ≡ Standing.Going }
+        ensures advances { Advances self.old result self.new }
+        ensures settings { self.new.settings ≡ self.old.settings }
     {
-        self.made += 1;
-        self.standing = Standing::Going;
-        exec(&mut self.regs, &mut self.mem)
-    }
-
-    /// Makes an instruction in its turn, up to what its event asks for.
-    #[inline(always)]
-    fn advance_instruction(&mut self) -> Came
-        requires { CanGo self.old }
-        ensures { Advances self.old result self.new }
-    {
-        match self.step() {
-            Event::Next => Came::Plain,
-            Event::Ecall => Came::Told(Cause::Call),
-            Event::Fault(sig) => Came::Told(Cause::Fault(sig)),
-            Event::Return(_) => Came::Told(Cause::Fault(Sig::of(SIGSEGV))),
-        }
-    }
-
-    /// Goes on by one move, but for what the move's report tells: that is made by `tell`.
-    #[inline(always)]
-    fn advance(&mut self) -> Came
-        ensures { Advances self.old result self.new }
-    {
-        match self.standing.came() {
-            Some(came) => return came,
-            None => {}
-        }
         if self.made == self.settings.budget {
             return Came::End(Ending::Budget);
         }
-        self.advance_instruction()
-    }
-
-    /// Makes the rest of a move, and tells it.
-    fn tell(&mut self, cause: Cause) -> Report
-        requires { CanTell cause self.old }
-        ensures turn { (p : Single) → Advanced p cause self.old → IsTurn p.settings (moment_of p) (Turn.Made result) (moment_of self.new) }
-        ensures settings { self.new.settings ≡ self.old.settings }
-        ensures begun { self.new.last ≡ Some 1 }
-    {
-        match cause {
-            Cause::Call => self.call(),
-            Cause::Fault(sig) => self.note_fault(sig),
-            Cause::Delivery(sig) => self.deliver(sig),
+        self.made += 1;
+        match self.kernel.execute() {
+            Event::Next => Came::Plain,
+            event => {
+                let t = self.kernel.tables().placed();
+                begin_move(&mut self.kernel, t, event);
+                self.standing = Standing::InCall;
+                Came::Begun(self.last)
+            }
         }
     }
 
-    /// Makes one move in its turn, or tells the ending: a delivery where a signal pends, else an
-    /// instruction. Ended comes exactly where the run has ended; Quiet exactly where the move has no lines.
-    pub fn turn(&mut self) -> Turn
-        ensures turn { IsTurn self.old.settings (moment_of self.old) result (moment_of self.new) }
+    /// Makes the first instruction of a thread's turn, which is the chosen one, or begins its move.
+    fn switch_to(&mut self, t: Tid) -> Came
+        requires rest { self.old.standing ≡ Standing.Paused }
+        requires calm { (view order self.old.kernel.tables).pending ≡ none_pending }
+        requires going_on { (view order self.old.kernel.tables).over ≡ None }
+        requires chosen { chosen (view order self.old.kernel.tables) ≡ Some t }
+        ensures advances { Advances self.old result self.new }
         ensures settings { self.new.settings ≡ self.old.settings }
     {
-        match self.advance() {
-            Came::Plain => Turn::Quiet,
-            Came::Told(cause) => Turn::Made(self.tell(cause)),
-            Came::End(ending) => Turn::Ended(ending),
+        if self.made == self.settings.budget {
+            return Came::End(Ending::Budget);
+        }
+        let before = self.last;
+        self.kernel.place(t);
+        self.made += 1;
+        self.last = Some(t);
+        match self.kernel.execute() {
+            Event::Next => {
+                self.standing = Standing::Going;
+                Came::Switched(before)
+            }
+            event => {
+                begin_move(&mut self.kernel, t, event);
+                self.standing = Standing::InCall;
+                Came::Begun(before)
+            }
         }
     }
 
-    /// The thread of the last instruction.
-    fn last(&self) -> Option<Tid>
-        ensures { result ≡ self.now.last }
+    /// Sees how the run goes on: it is over, a fault's signal is delivered, nobody can go on, or the chosen
+    /// thread has its turn.
+    fn resume(&mut self) -> Came
+        requires { self.old.standing ≡ Standing.Paused }
+        ensures advances { Advances self.old result self.new }
+        ensures settings { self.new.settings ≡ self.old.settings }
+    {
+        match self.kernel.tables().over() {
+            Some(ending) => return Came::End(ending),
+            None => {}
+        }
+        match self.kernel.tables().fault() {
+            Some(fault) => {
+                self.kernel.note_delivery(fault);
+                self.standing = Standing::InCall;
+                return Came::Begun(self.last);
+            }
+            None => {}
+        }
+        match self.kernel.tables().chosen() {
+            Some(t) => self.switch_to(t),
+            None => Came::End(Ending::Idle),
+        }
+    }
+
+    /// Goes on by one move: a plain instruction is made, and another move begun.
+    #[inline(always)]
+    fn advance(&mut self) -> Came
+        requires { (course_of self.old).telling ≡ None }
+        ensures advances { Advances self.old result self.new }
+        ensures settings { self.new.settings ≡ self.old.settings }
     {
         match self.standing {
-            Standing::New => None,
-            _ => Some(Tid::at(0)),
+            Standing::Going => self.instruction(),
+            Standing::Paused => self.resume(),
+            Standing::InCall => unreachable!(),
         }
     }
 
-    /// How many of each signal still pend, by number: none where no fault waits for its delivery.
-    fn left(&self) -> [u64; 32]
-        requires { self.now.fault ≡ None }
-        ensures { result ≡ left (state_of self.now) }
+    /// Makes plain instructions of the thread in place, up to its first other move or the end of the run.
+    #[inline(always)]
+    fn run_turn(&mut self) -> Came
+        requires { self.old.standing ≡ Standing.Going }
+        ensures proceeds { Proceeds self.old result self.new }
+        ensures settings { self.new.settings ≡ self.old.settings }
     {
-        [0; 32]
+        loop {
+            match self.instruction() {
+                Came::Plain => {}
+                came => return came,
+            }
+        }
+    }
+
+    /// Goes on to the next move that may write text, or to the end of the run.
+    #[inline(always)]
+    fn proceed(&mut self) -> Came
+        requires { (course_of self.old).telling ≡ None }
+        ensures proceeds { Proceeds self.old result self.new }
+        ensures settings { self.new.settings ≡ self.old.settings }
+    {
+        match self.standing {
+            Standing::Going => self.run_turn(),
+            Standing::Paused => self.resume(),
+            Standing::InCall => unreachable!(),
+        }
+    }
+
+    /// Makes the next small change of the move in progress.
+    fn step(&mut self) -> Turn
+        requires { self.old.standing ≡ Standing.InCall }
+        ensures turn { IsTurn self.old.settings (course_of self.old) result (course_of self.new) }
+        ensures settings { self.new.settings ≡ self.old.settings }
+    {
+        match self.kernel.step_move() {
+            Stepped::More => Turn::Quiet,
+            Stepped::Exit(report) => {
+                self.standing = Standing::Paused;
+                Turn::Made(report)
+            }
+        }
+    }
+
+    /// Makes one instruction, or one small change of a move in progress, or tells the ending. Made comes exactly
+    /// with the last change of a move, with its report; Ended comes exactly where the run has ended; Quiet
+    /// exactly where the turn completed no move with lines and told no ending.
+    pub fn turn(&mut self) -> Turn
+        ensures turn { IsTurn self.old.settings (course_of self.old) result (course_of self.new) }
+        ensures settings { self.new.settings ≡ self.old.settings }
+    {
+        match self.standing {
+            Standing::InCall => self.step(),
+            _ => match self.advance() {
+                Came::End(ending) => Turn::Ended(ending),
+                _ => Turn::Quiet,
+            },
+        }
+    }
+
+    /// Makes all that is left of the move in progress, and gives its report.
+    fn finish(&mut self) -> Report
+        requires { self.old.standing ≡ Standing.InCall }
+        ensures report { result ≡ (owed_of self.old).report }
+        ensures now { moment_of self.new ≡ moment_of self.old }
+        ensures at_rest { self.new.standing ≡ Standing.Paused }
+        ensures readable { IsReadable result (moment_of self.new).state.memory }
+        ensures settings { self.new.settings ≡ self.old.settings }
+    {
+        let report = self.kernel.finish();
+        self.standing = Standing::Paused;
+        report
     }
 
     /// Writes the line before an instruction of another thread than the last.
     #[tactic(auto, using(replay_io::proofs::WritingLemmas::writes_nothing))]
-    fn put_switch<O: Sink>(&self, before: Option<Tid>, out: &mut O) -> Result<(), SinkFailed>
-        ensures { Writes result (O.written out.old) (O.written out.new) (O.faults out.old) (O.faults out.new) (switch_line before self.now.last) }
+    fn put_switch<O: Sink>(&self, before: &Option<Tid>, out: &mut O) -> Result<(), SinkFailed>
+        ensures { Writes result (O.written out.old) (O.written out.new) (O.faults out.old) (O.faults out.new) (switch_line before.now self.now.last) }
     {
-        let Some(t) = self.last() else {
+        let Some(t) = self.last else {
             return Ok(());
         };
         if is_thread(before, t) {
@@ -344,94 +249,74 @@ impl Process {
         put_run(t, out)
     }
 
+    /// The memory of a process at rest.
+    fn memory(&self) -> &Memory
+        requires { self.now.standing ≡ Standing.Paused }
+        ensures { result.now ≡ (moment_of self.now).state.memory }
+    {
+        self.kernel.tables().memory()
+    }
+
     /// Writes the text of a move that was made with this report.
-    #[tactic(auto, unfolding(crate::specs::Single::state_of))]
     fn put_made<O: Sink>(
         &self,
-        before: Option<Tid>,
+        before: &Option<Tid>,
         report: &Report,
         mode: Mode,
         out: &mut O,
     ) -> Result<(), SinkFailed>
-        requires { IsReadable report.now (state_of self.now).memory }
-        ensures { Writes result (O.written out.old) (O.written out.new) (O.faults out.old) (O.faults out.new) (switch_line before self.now.last ++ lines report.now (state_of self.now).memory) }
+        requires readable { IsReadable report.now (moment_of self.now).state.memory }
+        requires at_rest { self.now.standing ≡ Standing.Paused }
+        ensures { Writes result (O.written out.old) (O.written out.new) (O.faults out.old) (O.faults out.new) (switch_line before.now self.now.last ++ lines report.now (moment_of self.now).state.memory) }
     {
         self.put_switch(before, out)?;
-        put_report(report, &self.mem, mode, out)
-    }
-
-    /// Writes the lines of a move that was made with this report.
-    #[tactic(auto, unfolding(crate::specs::Single::state_of))]
-    fn put_told<O: Sink>(&self, report: &Report, mode: Mode, out: &mut O) -> Result<(), SinkFailed>
-        requires { IsReadable report.now (state_of self.now).memory }
-        ensures { Writes result (O.written out.old) (O.written out.new) (O.faults out.old) (O.faults out.new) (lines report.now (state_of self.now).memory) }
-    {
-        put_report(report, &self.mem, mode, out)
-    }
-
-    /// Makes the rest of a run that has begun, and writes its text: the thread of the last instruction stays.
-    fn run_on<O: Sink>(&mut self, out: &mut O, mode: Mode) -> Result<Done, SinkFailed>
-        requires { self.old.last ≡ Some 1 }
-        ensures { Goes self.old.settings (moment_of self.old) result (O.written out.old) (O.written out.new) (O.faults out.old) (O.faults out.new) }
-    {
-        loop {
-            match self.advance() {
-                Came::Plain => {}
-                Came::Told(cause) => {
-                    let report = self.tell(cause);
-                    self.put_told(&report, mode, out)?;
-                }
-                Came::End(ending) => {
-                    put_end(&ending, &self.left(), out)?;
-                    return Ok(Done { ending });
-                }
-            }
-        }
+        put_report(report, self.memory(), mode, out)
     }
 
     /// Makes the rest of the run and writes its text.
-    fn run_to_end<O: Sink>(&mut self, out: &mut O, mode: Mode) -> Result<Done, SinkFailed>
+    fn run_on<O: Sink>(&mut self, out: &mut O, mode: Mode) -> Result<Done, SinkFailed>
+        requires at_rest { (course_of self.old).telling ≡ None }
+        requires limit { self.old.settings.budget ≤ 1000000000 }
         ensures { Goes self.old.settings (moment_of self.old) result (O.written out.old) (O.written out.new) (O.faults out.old) (O.faults out.new) }
     {
-        let before = self.last();
-        match self.advance() {
-            Came::Plain => {
-                self.put_switch(before, out)?;
-                self.run_on(out, mode)
-            }
-            Came::Told(cause) => {
-                let report = self.tell(cause);
-                self.put_made(before, &report, mode, out)?;
-                self.run_on(out, mode)
-            }
-            Came::End(ending) => {
-                put_end(&ending, &self.left(), out)?;
-                Ok(Done { ending })
+        let first = self.made;
+        let mut told = Counts::none();
+        loop {
+            match self.proceed() {
+                Came::Plain => {}
+                Came::Switched(before) => {
+                    told = with_move(told, &before, &self.last, &Head::Quiet);
+                    self.put_switch(&before, out)?;
+                }
+                Came::Begun(before) => {
+                    let report = self.finish();
+                    told = with_move(told, &before, &self.last, &report.head);
+                    self.put_made(&before, &report, mode, out)?;
+                }
+                Came::End(ending) => {
+                    put_end(&ending, &[0; 32], out)?;
+                    let counts = Counts {
+                        instructions: self.made - first,
+                        ..told
+                    };
+                    return Ok(Done { ending, counts });
+                }
             }
         }
     }
 
-    /// Runs to the end and writes the text of the run. Ok appended the whole text of one ended run and
-    /// tells its ending; WriteFault comes only where the sink's count of faults rose in this call, and then
-    /// a front of the whole text of one ended run was appended. It takes no memory.
+    /// Runs to the end and writes the text of the run, where no move is in progress. Ok appended the whole text
+    /// of one ended run and tells its ending and counts; WriteFault comes only where the sink's count of faults
+    /// rose in this call, and then a front of the whole text of one ended run was appended. It takes no memory.
     pub fn run<O: Sink>(mut self, out: &mut O, mode: Mode) -> Result<Done, WriteFault>
+        requires { (course_of self).telling ≡ None }
         ensures { Runs self.settings (moment_of self) result (O.written out.old) (O.written out.new) (O.faults out.old) (O.faults out.new) }
     {
         // opened, so that its count is known to be within the budget
         let _made = &self.made;
-        match self.run_to_end(out, mode) {
+        match self.run_on(out, mode) {
             Ok(done) => Ok(done),
             Err(SinkFailed) => Err(WriteFault),
         }
-    }
-}
-
-/// Whether it was this thread.
-fn is_thread(before: Option<Tid>, t: Tid) -> bool
-    ensures { result ≡ is_last t before }
-{
-    match before {
-        Some(u) => u.number() == t.number(),
-        None => false,
     }
 }

@@ -5,9 +5,11 @@ mod counts;
 mod line;
 mod output;
 mod report;
+mod tally;
 
 pub use line::put_line;
 pub use report::{put_end, put_report, put_run};
+pub use tally::Counts;
 
 /// What is written of a run: its whole trace.
 #[derive(Clone, Copy, Debug, PartialEq, Eq)]

@@ -1,4 +1,4 @@
-use Rattle.std.proofs.Common.{◌∙◌, ap, sym}
+use Rattle.std.proofs.Common.{◌∙◌, ap, sym, ◌∷◌}
 use Rattle.posix_model.specs.Changes.{Made}
 use Rattle.kernel_state.specs.View.{made}
 use Rattle.kernel_state.specs.Moves.{told_by}
@@ -15,4 +15,6 @@ returns-then-is_idle-clause-step g c =
       c.take_report.ensures.report ∙ (λ i. (told_by (c.step.ensures.tid i) (c.step.ensures.head i) (is i)).report),
       c.take_report.ensures.untold,
       c.take_report.ensures.settings ∙ c.step.ensures.settings,
+      c.step.ensures.first.0,
+      c.step.ensures.first.1 ∙ ap (λ xs. c.step.ensures.first.0 ∷ xs) all.0,
     )

@@ -4,7 +4,7 @@ use Rattle.posix_model.specs.State.{State, Thread}
 use Rattle.posix_model.specs.Leaving.{over_with_last}
 use Rattle.kernel_state.specs.View.{view, with_ready}
 use Rattle.kernel_state.specs.Changing.{left_by}
-use Rattle.kernel_state.proofs.ViewLemmas.{gone_calmly}
+use Rattle.kernel_state.proofs.ViewLemmas.{gone_calmly, view_mutexes}
 use Rattle.kernel_state.proofs.tables.Tables.leave_list.Goals as goal
 
 pub returns-clause-view : goal.returns-clause-view
@@ -15,4 +15,4 @@ returns-clause-view g c =
     ∙ ap over_with_last (
     c.take_out.ensures.view
     ∙ ap (λ (x : State). with_ready x (without c.args.t x.ready)) c.leave.ensures.view
-    ∙ gone_calmly s c.args.t left c.requires.calm)
+    ∙ gone_calmly s c.args.t left c.requires.calm (view_mutexes g.R.Ready.order c.args.self.now))

@@ -1,15 +1,16 @@
-use Rattle.process_engine.specs.Program.{program}
-use Rattle.std.proofs.Common.{◌≡◌, Some}
+use Rattle.std.proofs.Common.{◌≡◌, None}
 use Rattle.posix_model.proofs.TraceLemmas.{moves_left}
-use Rattle.process_engine.specs.Single.{moment_of}
+use Rattle.process_engine.specs.Program.{program}
+use Rattle.process_engine.specs.Engine.{course_of, moment_of}
 use Rattle.process_engine.proofs.RunLemmas.{SoFarWritten}
 use Rattle.process_engine.proofs.process.Process.run_on.Given as goal
 
-abbrev pub invariant-loop-cause : goal.invariant-loop-cause
-invariant-loop-cause g l =
+abbrev pub invariant-loop-before : goal.invariant-loop-before
+invariant-loop-before g l =
     (l.self.settings ≡ l.fn.self.settings)
-    × (l.self.last ≡ Some 1)
-    × SoFarWritten l.fn.self.settings (moment_of l.fn.self) (moment_of l.self) (g.O.Sink.written l.fn.out) (g.O.Sink.written l.out) (g.O.Sink.faults l.fn.out) (g.O.Sink.faults l.out)
+    × ((course_of l.self).telling ≡ None)
+    × (l.first ≡ l.fn.self.made)
+    × SoFarWritten l.fn.self.settings (moment_of l.fn.self) (moment_of l.self) l.told (g.O.Sink.written l.fn.out) (g.O.Sink.written l.out) (g.O.Sink.faults l.fn.out) (g.O.Sink.faults l.out)
 
-abbrev pub decreases-loop-cause : goal.decreases-loop-cause
-decreases-loop-cause g l = moves_left (program l.self.settings) (moment_of l.self)
+abbrev pub decreases-loop-before : goal.decreases-loop-before
+decreases-loop-before g l = moves_left (program l.self.settings) (moment_of l.self)
