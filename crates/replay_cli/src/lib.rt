@@ -11,4 +11,8 @@ pub use journal::JournalRefusal;
 pub use top::replay;
 
 #[cfg(test)]
+mod cases;
+#[cfg(test)]
 mod tests;
+#[cfg(test)]
+mod thread_tests;

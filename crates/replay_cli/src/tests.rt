@@ -1,9 +1,7 @@
-use super::*;
-use replay_io::{MemFiles, MemSink, Words};
+use crate::Status;
+use crate::cases::{Case, EMPTY, Item, Row, check, check_row, given};
 use std::alloc::Global;
-use std::process::Abort;
 use std::test::Fail;
-use workload_gen::{sheet, sys_words};
 
 /// The smallest image: it writes `hi` and exits with 3.
 const SMALLEST: [u8; 122] =
@@ -13,62 +11,9 @@ const SMALLEST: [u8; 122] =
 const SMALLEST_TEXT: &[u8] =
     b"run 1\ncall 1 64 1 65656 2 0 = 0 2\nout 1 1 6869\ncall 1 93 3 65656 2 0 = end\nend exit 3\n";
 
-const EMPTY: &[u8] = b"fsu-journal 1\n";
-
-/// What a replay is given, and what it must answer.
-#[derive(Clone, Copy)]
-struct Case<'a> {
-    words: &'a [&'a str],
-    image: &'a [u8],
-    journal: &'a [u8],
-    failing_loads: &'a [u32],
-    failing_puts: &'a [(u32, u32)],
-    status: Status,
-    out: &'a [u8],
-    err: &'a [u8],
-}
-
-/// A case in which nothing fails.
-fn given<'a>(
-    image: &'a [u8],
-    journal: &'a [u8],
-    status: Status,
-    out: &'a [u8],
-    err: &'a [u8],
-) -> Case<'a> {
-    Case {
-        words: &["image", "journal"],
-        image,
-        journal,
-        failing_loads: &[],
-        failing_puts: &[],
-        status,
-        out,
-        err,
-    }
-}
-
 /// A case whose image is refused with this line.
 fn refused<'a>(image: &'a [u8], err: &'a [u8]) -> Case<'a> {
     given(image, EMPTY, Status::Image, b"", err)
-}
-
-/// Replays a case over memory, and compares status, output and the line that tells why.
-fn check(rt: &impl Abort, alloc: Global, case: &Case<'_>) -> Result<(), Fail> {
-    let mut words = Words::new(alloc);
-    for word in case.words {
-        words.push(word)?;
-    }
-    let mut files = MemFiles::new(alloc, case.failing_loads)?;
-    files.add("image", case.image)?;
-    files.add("journal", case.journal)?;
-    let mut out = MemSink::new(alloc, 4096, case.failing_puts)?;
-    let mut err = MemSink::new(alloc, 4096, &[])?;
-    let status = replay(alloc, &words, &mut files, &mut out, &mut err);
-    assert_eq!(rt; status, case.status);
-    assert_eq!(rt; out.bytes(), case.out);
-    assert_eq!(rt; err.bytes(), case.err);
-    Ok(())
 }
 
 /// Writes a piece into bytes, as far as they go.
@@ -255,47 +200,6 @@ fn endings(rt: HostRuntime) -> Result<(), Fail> {
     )
 }
 
-/// An item of a sheet program.
-#[derive(Clone, Copy)]
-enum Item {
-    /// A call: its number, and a0 to a3.
-    Sys(u32, [u32; 4]),
-    /// A return to the address in ra.
-    Ret,
-    /// A label: the next item stands at this address.
-    At(u32),
-}
-
-/// A row: a program, item by item, and the text of its run under the journal of the header alone.
-#[derive(Clone, Copy)]
-struct Row<'a> {
-    items: &'a [Item],
-    text: &'a [u8],
-}
-
-/// The sheet of a program; each label has to stand where it says.
-fn assembled(rt: &impl Abort, alloc: Global, items: &[Item]) -> Result<Vec<u8>, Fail> {
-    let mut code = Vec::new(alloc);
-    for item in items {
-        match item {
-            Item::Sys(number, args) => code.extend_from_slice(&sys_words(*number, *args))?,
-            Item::Ret => code.push(0x0000_8067)?,
-            Item::At(address) => {
-                let here = code.len().saturating_mul(4).saturating_add(65_620);
-                assert_eq!(rt; here, *address as usize);
-            }
-        }
-    }
-    assert!(rt; code.len() <= 10_000);
-    Ok(sheet(alloc, &code)?)
-}
-
-/// Replays a row.
-fn check_row(rt: &impl Abort, alloc: Global, row: &Row<'_>) -> Result<(), Fail> {
-    let image = assembled(rt, alloc, row.items)?;
-    check(rt, alloc, &given(&image, EMPTY, Status::Ran, row.text, b""))
-}
-
 #[test]
 fn rows_of_sheets(rt: HostRuntime) -> Result<(), Fail> {
     let alloc = rt.alloc();
@@ -326,14 +230,15 @@ call 1 93 258 0 0 0 = end\n\
 end exit 2\n",
     };
     check_row(&rt, alloc, &calls)?;
-    // a return from the first routine, which is not due yet
+    // a return from the first routine: the value is the 0 that the call left in a0
     let returned = Row {
         items: &[Item::Sys(260, [0, 0, 0, 0]), Item::Ret],
         text: b"run 1\n\
-call 1 260 0 0 0 0 = 38 0\n\
-fault 1 11\n\
-deliver 1 11 1\n\
-end killed 11\n",
+call 1 260 0 0 0 0 = 0 1\n\
+ret 1 start\n\
+ret 1 cleanup\n\
+gone 1 0\n\
+end exit 0\n",
     };
     check_row(&rt, alloc, &returned)
 }
