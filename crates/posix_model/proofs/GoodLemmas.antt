@@ -1,5 +1,6 @@
 -- Each change of which moves are made keeps a good state good.
 use Rattle.std.proofs.Common.{◌≡◌, ◌≢◌, ◌∙◌, ap, sym, refl, subst, inl, inr, ◌⊎◌, ℕ, true, false, eqb, List, [], ◌∷◌, ◌++◌, Option, None}
+use Rattle.std.specs.Prelude.{is_some}
 use Rattle.std.proofs.lemmas.Bool.{cases_eq, eqb-true}
 use Rattle.thread_base.specs.Maps.{put}
 use Rattle.thread_base.specs.Numbers.{IsTid}
@@ -7,19 +8,20 @@ use Rattle.thread_base.specs.Orders.{is_in, without, IsOrder}
 use Rattle.thread_base.specs.Priority.{tids}
 use Rattle.thread_base.proofs.OrderLemmas.{IsOrder-push, IsOrder-filter, not_in-without, within, is_in-without, is_in-push, is_in-pushed, is_in-to_end}
 use Rattle.thread_base.proofs.SearchLemmas.{in_tids, find_none, any_none}
-use Rattle.posix_model.specs.State.{State, Thread, Mutex, Ready, Waits, is_absent, is_ready, is_live, joins, wants}
+use Rattle.posix_model.specs.State.{State, Thread, Mutex, Condition, Ready, Waits, is_absent, is_ready, is_live, joins, wants, waits_on, mutex_with, count_due}
 use Rattle.posix_model.specs.Changes.{Made, set_thread, append, to_end, await, reply, with_reply, answer}
 use Rattle.posix_model.specs.Threads.{joiner, has_joiner}
 use Rattle.posix_model.specs.Mutexes.{holder_in, waiters_in, orphaned}
-use Rattle.posix_model.specs.Good.{IsGood, MayJoin, IsSoundMutex}
+use Rattle.posix_model.specs.Good.{IsGood, MayJoin, IsSoundMutex, IsSoundCondition, IsCount}
 use Rattle.posix_model.specs.declared.Wait.TheVariants.{Join}
-use Rattle.posix_model.proofs.StandingLemmas.{never, ready_live, ready_joins, ready_wants, joins_waits, joins_wants, dead_wants, at_same, at_other, kept}
+use Rattle.posix_model.proofs.StandingLemmas.{never, ready_live, ready_joins, ready_wants, ready_waits_on, joins_waits, joins_wants, joins_waits_on, dead_wants, dead_waits_on, once, dead_once, at_same, at_other, kept}
 use Rattle.posix_model.proofs.MutexLemmas.{with_thread, sound_alike, sound_with, sound_orphaned}
+use Rattle.posix_model.proofs.ConditionLemmas.{condition_alike, condition_apart, orphan_there, counted_with}
 
--- states that agree on the ready list, the mutexes and each thread's standing and detachment are good together
-pub good_alike : (s r : State) → r.ready ≡ s.ready → r.mutexes ≡ s.mutexes → ((u : ℕ) → (r.threads u).standing ≡ (s.threads u).standing)
+-- states that agree on the ready list, the mutexes, the conditions and each thread's standing and detachment are good together
+pub good_alike : (s r : State) → r.ready ≡ s.ready → r.mutexes ≡ s.mutexes → r.conditions ≡ s.conditions → ((u : ℕ) → (r.threads u).standing ≡ (s.threads u).standing)
     → ((u : ℕ) → (r.threads u).detached ≡ (s.threads u).detached) → IsGood s → IsGood r
-good_alike s r ready mutexes standing detached good = record {
+good_alike s r ready mutexes conditions standing detached good = record {
   order = subst IsOrder (sym ready) good.order;
   listed = λ t. ap (is_in t) ready ∙ good.listed t ∙ ap is_ready (sym (standing t));
   within = λ t h. good.within t (ap is_absent (sym (standing t)) ∙ h);
@@ -36,13 +38,20 @@ good_alike s r ready mutexes standing detached good = record {
       (λ u. ap (wants m) (standing u))
       (λ u h live. ap is_live (standing u) ∙ live)
       (good.sound m);
+  conditions = λ c.
+      subst (IsSoundCondition r c) (sym (ap (λ (f : ℕ → Option Condition). f c) conditions))
+      (condition_alike s r c (s.conditions c)
+      (λ u. ap (waits_on c) (standing u)) (λ u h. ap mutex_with (standing u))
+      (λ m e h. ap (λ (f : ℕ → Option Mutex). is_some (f m)) mutexes ∙ h)
+      (good.conditions c));
+  counted = λ t. subst (λ st. IsCount (count_due st)) (sym (standing t)) (good.counted t);
 }
 
 -- a thread's record changes, but for its standing and its detachment
 pub good_set : (s : State) (t : ℕ) (thread : Thread) → thread.standing ≡ (s.threads t).standing → thread.detached ≡ (s.threads t).detached
     → IsGood s → IsGood (set_thread s t thread)
 good_set s t thread standing detached good =
-    good_alike s (set_thread s t thread) refl refl
+    good_alike s (set_thread s t thread) refl refl refl
     (λ u. kept (λ (x : Thread). x.standing) s.threads t u thread standing)
     (λ u. kept (λ (x : Thread). x.detached) s.threads t u thread detached)
     good
@@ -50,12 +59,13 @@ good_set s t thread standing detached good =
 pub good_reply : (s : State) (t error value : ℕ) → IsGood s → IsGood (reply s t error value)
 good_reply s t error value good = good_set s t (with_reply (s.threads t) error value) refl refl good
 
--- a thread's record, the ready list and the mutexes change, and the thread waits for no end
-module _ (s : State) (t : ℕ) (thread : Thread) (ready : List ℕ) (mutexes : ℕ → Option Mutex) (good : IsGood s) (order : IsOrder ready)
+-- a thread's record, the ready list, the mutexes and the conditions change, and the thread waits for no end
+module _ (s : State) (t : ℕ) (thread : Thread) (ready : List ℕ) (mutexes : ℕ → Option Mutex) (conditions : ℕ → Option Condition) (good : IsGood s) (order : IsOrder ready)
     (others : (u : ℕ) → u ≢ t → is_in u ready ≡ is_in u s.ready) (mine : is_in t ready ≡ is_ready thread.standing)
     (inside : is_absent thread.standing ≡ false → IsTid t) (idle : (u : ℕ) → joins u thread.standing ≡ false)
     (open_to : (v : ℕ) → v ≢ t → joins t (s.threads v).standing ≡ true → (is_live thread.standing ≡ true) × (thread.detached ≡ false))
-    (sound : (m : ℕ) → IsSoundMutex (with_thread s t thread ready mutexes) m) where
+    (sound : (m : ℕ) → IsSoundMutex (with_thread s t thread ready mutexes conditions) m)
+    (agreed : (c : ℕ) → IsSoundCondition (with_thread s t thread ready mutexes conditions) c (conditions c)) (many : IsCount (count_due thread.standing)) where
   listed_after : (u : ℕ) → is_in u ready ≡ is_ready (put s.threads t thread u).standing
   listed_after u =
       elim (cases_eq u t) [
@@ -94,7 +104,7 @@ module _ (s : State) (t : ℕ) (thread : Thread) (ready : List ℕ) (mutexes : �
             ))
       ]
 
-  pub good_with : IsGood (with_thread s t thread ready mutexes)
+  pub good_with : IsGood (with_thread s t thread ready mutexes conditions)
   good_with = record {
     order = order;
     listed = listed_after;
@@ -108,6 +118,8 @@ module _ (s : State) (t : ℕ) (thread : Thread) (ready : List ℕ) (mutexes : �
           alone = λ w k. (let also = before w u k in (good.joining v u was.1).alone w also.1);
         });
     sound = sound;
+    conditions = agreed;
+    counted = counted_with s t thread good many;
   }
 
 -- a ready thread goes to the end of the list
@@ -115,51 +127,63 @@ pub good_to_end : (s : State) (t : ℕ) → IsGood s → is_ready (s.threads t).
 good_to_end s t good h =
     let here = good.listed t ∙ h in
     let range = within s.ready t good.order here in
-    good_with s t (record (s.threads t) { used = 0 }) (without t s.ready ++ t ∷ []) s.mutexes good
+    let thread : Thread = record (s.threads t) { used = 0 } in
+    let ready = without t s.ready ++ t ∷ [] in
+    good_with s t thread ready s.mutexes s.conditions good
     (IsOrder-push (without t s.ready) t (IsOrder-filter _ s.ready good.order) range.0 range.1 (not_in-without t s.ready))
     (λ u ne. is_in-to_end t u s.ready here)
     (is_in-pushed t (without t s.ready) ∙ sym h)
     (λ e. range)
     (λ u. ready_joins u (s.threads t).standing h)
     (λ v ne j. (let may = good.joining v t j in (may.live, may.joinable)))
-    (sound_with s t (record (s.threads t) { used = 0 }) (without t s.ready ++ t ∷ []) good (λ m. refl) (λ m k. (ready_live (s.threads t).standing h).1))
+    (sound_with s t thread ready s.conditions good (λ m. refl) (λ m k. (ready_live (s.threads t).standing h).1))
+    (λ c. (let awake = ready_waits_on c (s.threads t).standing h in condition_apart s t thread ready s.mutexes good (λ m is. is) s.conditions c awake awake))
+    (good.counted t)
 
--- a thread that was not ready and waited for no mutex becomes ready
-pub good_append : (s : State) (t : ℕ) (thread : Thread) → IsGood s → is_ready (s.threads t).standing ≡ false → ((m : ℕ) → wants m (s.threads t).standing ≡ false) → IsTid t
-    → ((v : ℕ) → joins t (s.threads v).standing ≡ true → thread.detached ≡ false) → IsGood (append s t thread)
-good_append s t thread good h wanted range open_to =
+-- a thread that was not ready and waited for no mutex and no condition becomes ready
+pub good_append : (s : State) (t : ℕ) (thread : Thread) → IsGood s → is_ready (s.threads t).standing ≡ false → ((m : ℕ) → wants m (s.threads t).standing ≡ false)
+    → ((c : ℕ) → waits_on c (s.threads t).standing ≡ false) → IsTid t → ((v : ℕ) → joins t (s.threads v).standing ≡ true → thread.detached ≡ false) → IsGood (append s t thread)
+good_append s t thread good h wanted awake range open_to =
     let away = good.listed t ∙ h in
-    good_with s t (record thread { standing = Ready; used = 0 }) (s.ready ++ t ∷ []) s.mutexes good
+    good_with s t (record thread { standing = Ready; used = 0 }) (s.ready ++ t ∷ []) s.mutexes s.conditions good
     (IsOrder-push s.ready t good.order range.0 range.1 away)
     (λ u ne. is_in-push t u s.ready ne)
     (is_in-pushed t s.ready)
     (λ e. range)
     (λ u. refl)
     (λ v ne j. (refl, open_to v j))
-    (sound_with s t (record thread { standing = Ready; used = 0 }) (s.ready ++ t ∷ []) good (λ m. sym (wanted m)) (λ m k. refl))
+    (sound_with s t (record thread { standing = Ready; used = 0 }) (s.ready ++ t ∷ []) s.conditions good (λ m. sym (wanted m)) (λ m k. refl))
+    (λ c. condition_apart s t (record thread { standing = Ready; used = 0 }) (s.ready ++ t ∷ []) s.mutexes good (λ m is. is) s.conditions c refl (awake c))
+    once
 
--- a thread that nobody joins and that waits for no mutex is gone, or has ended, or is there no more
+-- a thread that nobody joins and that waits for no mutex and no condition is gone, or has ended, or is there no more
 pub good_gone : (s : State) (t : ℕ) (thread : Thread) → IsGood s → is_live thread.standing ≡ false → is_ready thread.standing ≡ false → ((u : ℕ) → joins u thread.standing ≡ false)
-    → (is_absent thread.standing ≡ false → IsTid t) → ((m : ℕ) → wants m (s.threads t).standing ≡ false) → ((v : ℕ) → joins t (s.threads v).standing ≡ true → ⊥)
-    → IsGood (with_thread s t thread (without t s.ready) (orphaned t s.mutexes))
-good_gone s t thread good dead away idle inside wanted nobody =
-    good_with s t thread (without t s.ready) (orphaned t s.mutexes) good
+    → (is_absent thread.standing ≡ false → IsTid t) → ((m : ℕ) → wants m (s.threads t).standing ≡ false) → ((c : ℕ) → waits_on c (s.threads t).standing ≡ false)
+    → ((v : ℕ) → joins t (s.threads v).standing ≡ true → ⊥) → IsGood (with_thread s t thread (without t s.ready) (orphaned t s.mutexes) s.conditions)
+good_gone s t thread good dead away idle inside wanted awake nobody =
+    good_with s t thread (without t s.ready) (orphaned t s.mutexes) s.conditions good
     (IsOrder-filter _ s.ready good.order)
     (λ u ne. is_in-without t u s.ready ne)
     (not_in-without t s.ready ∙ sym away)
     inside idle
     (λ v ne j. absurd (nobody v j))
-    (sound_orphaned s t thread (without t s.ready) good (λ m. dead_wants m thread.standing dead) wanted)
+    (sound_orphaned s t thread (without t s.ready) s.conditions good (λ m. dead_wants m thread.standing dead) wanted)
+    (λ c.
+    condition_apart s t thread (without t s.ready) (orphaned t s.mutexes) good (λ m is. orphan_there t (s.mutexes m) ∙ is) s.conditions c
+    (dead_waits_on c thread.standing dead) (awake c))
+    (dead_once thread.standing dead)
 
 -- the record of a thread that has ended changes, which is not live then, and nobody joins it
 pub good_unjoined : (s : State) (t : ℕ) (thread : Thread) → IsGood s → is_live (s.threads t).standing ≡ false → is_live thread.standing ≡ false → is_ready thread.standing ≡ is_ready (s.threads t).standing
     → ((u : ℕ) → joins u thread.standing ≡ false)
     → (is_absent thread.standing ≡ false → IsTid t) → ((v : ℕ) → joins t (s.threads v).standing ≡ true → ⊥) → IsGood (set_thread s t thread)
 good_unjoined s t thread good was dead same idle inside nobody =
-    good_with s t thread s.ready s.mutexes good good.order (λ u ne. refl) (good.listed t ∙ sym same) inside idle (λ v ne j. absurd (nobody v j))
-    (sound_with s t thread s.ready good
+    good_with s t thread s.ready s.mutexes s.conditions good good.order (λ u ne. refl) (good.listed t ∙ sym same) inside idle (λ v ne j. absurd (nobody v j))
+    (sound_with s t thread s.ready s.conditions good
     (λ m. dead_wants m thread.standing dead ∙ sym (dead_wants m (s.threads t).standing was))
     (λ m h. absurd (never (is_live (s.threads t).standing) ((good.sound m).owned t h).live was)))
+    (λ c. condition_apart s t thread s.ready s.mutexes good (λ m is. is) s.conditions c (dead_waits_on c thread.standing dead) (dead_waits_on c (s.threads t).standing was))
+    (dead_once thread.standing dead)
 
 -- a test of equal numbers
 meets : (a b : ℕ) → eqb a b ≡ true → a ≡ b
@@ -219,7 +243,9 @@ module _ (s : State) (t u : ℕ) (good : IsGood s) (ready : is_ready (s.threads 
     ];
     within = λ v h. good.within v (sym (kept (λ (x : Thread). is_absent x.standing) s.threads t v waiting (sym (ready_live (s.threads t).standing ready).0)) ∙ h);
     joining = λ v w h. may_join v w (either v w h);
-    sound = sound_with s t waiting (without t s.ready) good (λ m. sym (ready_wants m (s.threads t).standing ready)) (λ m h. refl);
+    sound = sound_with s t waiting (without t s.ready) s.conditions good (λ m. sym (ready_wants m (s.threads t).standing ready)) (λ m h. refl);
+    conditions = λ c. condition_apart s t waiting (without t s.ready) s.mutexes good (λ m is. is) s.conditions c refl (ready_waits_on c (s.threads t).standing ready);
+    counted = counted_with s t waiting good once;
   }
 
 -- where no thread is found that joins, none joins
@@ -243,7 +269,8 @@ unjoined s u good dead v h = never (is_live (s.threads u).standing) (good.joinin
 pub good_answer : (g : Made) (u t error value : ℕ) → IsGood g.state → joins t (g.state.threads u).standing ≡ true → IsGood (answer g u error value).state
 good_answer g u t error value good h =
     let waits = joins_waits t (g.state.threads u).standing h in
-    good_append g.state u (with_reply (g.state.threads u) error value) good waits.0 (λ m. joins_wants t m (g.state.threads u).standing h) (good.within u waits.1)
+    good_append g.state u (with_reply (g.state.threads u) error value) good waits.0 (λ m. joins_wants t m (g.state.threads u).standing h)
+    (λ c. joins_waits_on t c (g.state.threads u).standing h) (good.within u waits.1)
     (λ v j. (good.joining v u j).joinable)
 
 -- a thread that nobody joins is detached
@@ -276,5 +303,9 @@ module _ (s : State) (u : ℕ) (good : IsGood s) (nobody : (v : ℕ) → joins u
           joinable = still_joinable v w was;
           alone = λ x k. may.alone x (ap (joins w) (sym (same_standing x)) ∙ k);
         });
-    sound = sound_with s u loose s.ready good (λ m. refl) (λ m h. ((good.sound m).owned u h).live);
+    sound = sound_with s u loose s.ready s.conditions good (λ m. refl) (λ m h. ((good.sound m).owned u h).live);
+    conditions = λ c.
+        condition_alike s (set_thread s u loose) c (s.conditions c) (λ w. ap (waits_on c) (same_standing w)) (λ w h. ap mutex_with (same_standing w)) (λ m e h. h)
+        (good.conditions c);
+    counted = counted_with s u loose good (good.counted u);
   }

@@ -1,5 +1,5 @@
 -- Each move keeps a good state good.
-use Rattle.std.proofs.Common.{◌≡◌, ◌≢◌, ◌∙◌, ap, sym, refl, ℕ, Bool, true, false, not, arith, List, [], ◌∷◌, Option, Some, None, length, inl, inr}
+use Rattle.std.proofs.Common.{◌≡◌, ◌≢◌, ◌∙◌, ap, sym, refl, subst, ℕ, Bool, true, false, not, arith, List, [], ◌∷◌, Option, Some, None, length, inl, inr}
 use Rattle.std.specs.Prelude.{◌==◌, ◌||◌, if◌then◌else◌, min}
 use Rattle.std.proofs.lemmas.Bool.{cases_eq, eqb-false, ne_eqb}
 use Rattle.thread_base.specs.Numbers.{IsTid}
@@ -11,7 +11,7 @@ use Rattle.thread_base.proofs.SearchLemmas.{tids_in, find_passes, find_member}
 use Rattle.rv_exec.specs.Meaning.{Effect, Goes, Calls, Faults, Returns, effect}
 use Rattle.rv_exec.specs.declared.Special.{Special}
 use Rattle.rv_exec.specs.declared.Special.TheVariants.{Handler, Cleanup, Start}
-use Rattle.posix_model.specs.State.{State, Thread, Registers, Phase, Normal, Leaving, Standing, Absent, Ready, Waits, Ended, is_absent, is_ready, is_live, joins, wants, no_thread}
+use Rattle.posix_model.specs.State.{State, Thread, Registers, Phase, Normal, Leaving, Standing, Absent, Ready, Waits, Ended, is_absent, is_ready, is_live, joins, wants, waits_on, count_due, no_thread}
 use Rattle.posix_model.specs.Built.{Built, Rules}
 use Rattle.posix_model.specs.Scheduling.{eff, chosen}
 use Rattle.posix_model.specs.Changes.{begun, set_thread, set_registers, append, to_end, answer}
@@ -25,7 +25,7 @@ use Rattle.posix_model.specs.Deliveries.{faulted, Delivery, delivered, next_deli
 use Rattle.posix_model.specs.Instructions.{by_effect, instruction, special_return, returned, segmentation_fault, went_on}
 use Rattle.posix_model.specs.Runs.{Moment, Allowed, IsRun, moved, after}
 use Rattle.posix_model.specs.Start.{start_state, main_thread}
-use Rattle.posix_model.specs.Good.{IsGood}
+use Rattle.posix_model.specs.Good.{IsGood, IsCount}
 use Rattle.posix_model.specs.Laws.{Goodness}
 use Rattle.posix_model.specs.declared.Arguments.{Arguments}
 use Rattle.thread_base.specs.declared.Errno.TheVariants.{ESRCH, EBADF, EAGAIN, EFAULT, EINVAL, EDEADLK, ENOSYS}
@@ -33,7 +33,7 @@ use Rattle.rv_exec.specs.Window.{fits}
 use Rattle.posix_model.specs.declared.Ending.TheVariants.{Exit}
 use Rattle.posix_model.specs.declared.Move.{Move}
 use Rattle.posix_model.specs.declared.Move.TheVariants.{Instr, Arrive, Deliver}
-use Rattle.posix_model.proofs.StandingLemmas.{never, ready_wants, joins_waits, dead_wants, at_same, at_other}
+use Rattle.posix_model.proofs.StandingLemmas.{never, ready_wants, ready_waits_on, joins_waits, dead_wants, dead_waits_on, once, at_same, at_other}
 use Rattle.posix_model.proofs.MutexLemmas.{with_thread}
 use Rattle.posix_model.proofs.GoodReplies.{GoodCall, good_refused, refusing_good, row_good}
 use Rattle.posix_model.proofs.GoodMutexes.{good_mutex_row}
@@ -62,7 +62,7 @@ module _ (s : State) (t : ℕ) (good : IsGood s) (ready : is_ready (s.threads t)
       good_reply s t 0 (min c.d most_written) good))
 
   good_exit : (c : Arguments) → GoodCall (exit s t c)
-  good_exit c = good_alike s _ refl refl (λ u. refl) (λ u. refl) good
+  good_exit c = good_alike s _ refl refl refl (λ u. refl) (λ u. refl) good
 
   good_created : (c : Arguments) (o : Option ℕ) → free_number s ≡ o → GoodCall (created s t c o)
   good_created c None e = good_refused s t good EAGAIN
@@ -71,7 +71,8 @@ module _ (s : State) (t : ℕ) (good : IsGood s) (ready : is_ready (s.threads t)
       let range = tids_in u (find_member (λ v. is_absent (s.threads v).standing) tids u e) in
       let dead = absent_dead (s.threads u).standing free in
       good_reply (append s u (new_thread (s.threads t) c)) t 0 u
-      (good_append s u (new_thread (s.threads t) c) good dead.0 (λ m. dead_wants m (s.threads u).standing dead.1) range (λ v j. absurd (unjoined s u good dead.1 v j)))
+      (good_append s u (new_thread (s.threads t) c) good dead.0 (λ m. dead_wants m (s.threads u).standing dead.1)
+      (λ d. dead_waits_on d (s.threads u).standing dead.1) range (λ v j. absurd (unjoined s u good dead.1 v j)))
 
   good_create : (c : Arguments) → GoodCall (create s t c)
   good_create c =
@@ -144,11 +145,11 @@ module _ (s : State) (t : ℕ) (good : IsGood s) (ready : is_ready (s.threads t)
   good_call is_built number c = row_good (is_built number) (table_row s t number c) (refused s t ENOSYS) (good_table number c) (good_refused s t good ENOSYS)
 
   good_faulted : (sig : ℕ) → IsGood (faulted s t sig).state
-  good_faulted sig = good_alike s (faulted s t sig).state refl refl (λ u. refl) (λ u. refl) good
+  good_faulted sig = good_alike s (faulted s t sig).state refl refl refl (λ u. refl) (λ u. refl) good
 
   good_went_on : (r : Registers) (memory : List ℕ) → IsGood (went_on s t r memory).state
   good_went_on r memory =
-      good_alike (set_registers s t r) (went_on s t r memory).state refl refl (λ u. refl) (λ u. refl)
+      good_alike (set_registers s t r) (went_on s t r memory).state refl refl refl (λ u. refl) (λ u. refl)
       (good_set s t (record (s.threads t) { registers = r }) refl refl good)
 
 -- the end of the last thread ends the process and changes nothing else
@@ -157,15 +158,16 @@ good_over s good = by (some_live s)
   where
     by : (b : Bool) → IsGood (if b then s else record s { over = Some (Exit 0) })
     by true = good
-    by false = good_alike s _ refl refl (λ u. refl) (λ u. refl) good
+    by false = good_alike s _ refl refl refl (λ u. refl) (λ u. refl) good
 
 -- a ready thread is gone that nobody joins
 good_without : (s : State) (t : ℕ) (left : Thread) → IsGood s → is_live left.standing ≡ false → is_ready left.standing ≡ false → ((u : ℕ) → joins u left.standing ≡ false)
     → (is_absent left.standing ≡ false → IsTid t) → is_ready (s.threads t).standing ≡ true → ((v : ℕ) → joins t (s.threads v).standing ≡ true → ⊥) → IsGood (over_with_last (without_thread s t left))
 good_without s t left good dead away idle inside ready nobody =
     good_over (without_thread s t left)
-    (good_alike (with_thread s t left (without t s.ready) (orphaned t s.mutexes)) (without_thread s t left) refl refl (λ u. refl) (λ u. refl)
-    (good_gone s t left good dead away idle inside (λ m. ready_wants m (s.threads t).standing ready) nobody))
+    (good_alike (with_thread s t left (without t s.ready) (orphaned t s.mutexes) s.conditions) (without_thread s t left) refl refl refl (λ u. refl) (λ u. refl)
+    (good_gone s t left good dead away idle inside (λ m. ready_wants m (s.threads t).standing ready)
+    (λ c. ready_waits_on c (s.threads t).standing ready) nobody))
 
 -- what is left of a thread is not live, is not ready and joins nobody
 left_idle : (thread : Thread) (value : ℕ) (u : ℕ)
@@ -238,7 +240,7 @@ chosen_ready s t good e =
 
 good_delivered : (s : State) (o : Option Delivery) → IsGood s → IsGood (delivered s o).state
 good_delivered s None good = good
-good_delivered s (Some d) good = good_alike s (delivered s (Some d)).state refl refl (λ u. refl) (λ u. refl) good
+good_delivered s (Some d) good = good_alike s (delivered s (Some d)).state refl refl refl (λ u. refl) (λ u. refl) good
 
 good_move : (rules : Rules) (now : Moment) (move : Move) → IsGood now.state → Allowed rules now move → IsGood (moved rules.built now move).state
 good_move rules now (Instr t) good allowed =
@@ -281,6 +283,20 @@ module _ (memory : List ℕ) (entry : ℕ) where
         | inr other ↦ at_other (λ (x : Thread). wants m x.standing) (λ v. no_thread) 1 t (main_thread (length memory) entry) other
       ]
 
+  start_waits_on : (c t : ℕ) → waits_on c ((start_state memory entry).threads t).standing ≡ false
+  start_waits_on c t =
+      elim (cases_eq t 1) [
+        | inl same ↦ at_same (λ (x : Thread). waits_on c x.standing) (λ v. no_thread) 1 t (main_thread (length memory) entry) same
+        | inr other ↦ at_other (λ (x : Thread). waits_on c x.standing) (λ v. no_thread) 1 t (main_thread (length memory) entry) other
+      ]
+
+  start_counts : (t : ℕ) → count_due ((start_state memory entry).threads t).standing ≡ 1
+  start_counts t =
+      elim (cases_eq t 1) [
+        | inl same ↦ at_same (λ (x : Thread). count_due x.standing) (λ v. no_thread) 1 t (main_thread (length memory) entry) same
+        | inr other ↦ at_other (λ (x : Thread). count_due x.standing) (λ v. no_thread) 1 t (main_thread (length memory) entry) other
+      ]
+
   good_start : IsGood (start_state memory entry)
   good_start = record {
     order = (omega arith, omega arith, refl, tt);
@@ -293,6 +309,15 @@ module _ (memory : List ℕ) (entry : ℕ) where
       owned = λ t h. absurd (let e : false ≡ true = h in cc);
       unwanted = λ h. refl;
     };
+    conditions = λ c. record {
+      within = λ h. absurd (let e : false ≡ true = h in cc);
+      order = tt;
+      listed = λ t. sym (start_waits_on c t);
+      together = λ t h. absurd (never (waits_on c ((start_state memory entry).threads t).standing) h (start_waits_on c t));
+      there = λ m h. let e : None ≡ Some m = h in absurd (cc);
+      unused = λ h. refl;
+    };
+    counted = λ t. subst IsCount (sym (start_counts t)) once;
   }
 
 pub goodness : Goodness

@@ -3,9 +3,13 @@ pub mod TraceLemmas
 pub mod RunLaws
 pub mod StandingLemmas
 pub mod MutexLemmas
+pub mod ConditionLemmas
 pub mod GoodLemmas
 pub mod GoodReplies
+pub mod GoodHands
+pub mod GoodConditions
 pub mod GoodMutexes
 pub mod GoodMoves
 pub mod PriorityLaws
+pub mod WakeLemmas
 pub mod Computed

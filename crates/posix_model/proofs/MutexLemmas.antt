@@ -7,14 +7,15 @@ use Rattle.thread_base.specs.Maps.{put}
 use Rattle.thread_base.specs.Orders.{is_in, IsOrder}
 use Rattle.thread_base.specs.declared.mutex.Holder.{Holder}
 use Rattle.thread_base.specs.declared.mutex.Holder.TheVariants.{Free, Held, Orphan}
-use Rattle.posix_model.specs.State.{State, Thread, Mutex, is_live, wants}
+use Rattle.posix_model.specs.State.{State, Thread, Mutex, Condition, is_live, wants}
 use Rattle.posix_model.specs.Mutexes.{holder_in, waiters_in, holder_of, waiters_of, most_locks, orphan_in, orphaned}
 use Rattle.posix_model.specs.Good.{IsGood, IsSoundMutex}
 use Rattle.posix_model.proofs.StandingLemmas.{never, at_same, at_other, kept}
 
--- a thread's record, the ready list and the mutexes change
-abbrev pub with_thread : State → ℕ → Thread → List ℕ → (ℕ → Option Mutex) → State
-with_thread s t thread ready mutexes = record s { threads = put s.threads t thread; ready = ready; mutexes = mutexes }
+-- a thread's record, the ready list, the mutexes and the conditions change
+abbrev pub with_thread : State → ℕ → Thread → List ℕ → (ℕ → Option Mutex) → (ℕ → Option Condition) → State
+with_thread s t thread ready mutexes conditions =
+    record s { threads = put s.threads t thread; ready = ready; mutexes = mutexes; conditions = conditions }
 
 -- a mutex is sound by its holder and its waiters
 pub sound_as : (r : State) (m : ℕ) (holder : Holder) (ws : List ℕ) → holder_of r m ≡ holder → waiters_of r m ≡ ws → IsOrder ws
@@ -45,13 +46,13 @@ sound_alike s r m a b wanted goes_on sound =
     (λ u h. (let may = sound.owned u h in (goes_on u h may.live, may.least, may.most)))
     sound.unwanted
 
-module _ (s : State) (t : ℕ) (thread : Thread) (ready : List ℕ) (good : IsGood s) where
+module _ (s : State) (t : ℕ) (thread : Thread) (ready : List ℕ) (conditions : ℕ → Option Condition) (good : IsGood s) where
   -- a thread's record changes, which waits for the same mutex, and goes on where it has one
   pub sound_with : ((m : ℕ) → wants m thread.standing ≡ wants m (s.threads t).standing)
       → ((m : ℕ) → is_held_by (holder_of s m) t ≡ true → is_live thread.standing ≡ true)
-      → (m : ℕ) → IsSoundMutex (with_thread s t thread ready s.mutexes) m
+      → (m : ℕ) → IsSoundMutex (with_thread s t thread ready s.mutexes conditions) m
   sound_with wanted goes_on m =
-      sound_alike s (with_thread s t thread ready s.mutexes) m refl refl
+      sound_alike s (with_thread s t thread ready s.mutexes conditions) m refl refl
       (λ u. kept (λ (x : Thread). wants m x.standing) s.threads t u thread (wanted m))
       (λ u h live. elim (cases_eq u t) [
         | inl same ↦ at_same (λ (x : Thread). is_live x.standing) s.threads t u thread same ∙ goes_on m (subst (λ v. is_held_by (holder_of s m) v ≡ true) same h)
@@ -61,13 +62,13 @@ module _ (s : State) (t : ℕ) (thread : Thread) (ready : List ℕ) (good : IsGo
 
   -- a mutex changes too, and the thread, which goes on, waits for no other than before
   pub sound_put : (m : ℕ) (o : Option Mutex) → ((k : ℕ) → k ≢ m → wants k thread.standing ≡ wants k (s.threads t).standing)
-      → is_live thread.standing ≡ true → IsSoundMutex (with_thread s t thread ready (put s.mutexes m o)) m
-      → (k : ℕ) → IsSoundMutex (with_thread s t thread ready (put s.mutexes m o)) k
+      → is_live thread.standing ≡ true → IsSoundMutex (with_thread s t thread ready (put s.mutexes m o) conditions) m
+      → (k : ℕ) → IsSoundMutex (with_thread s t thread ready (put s.mutexes m o) conditions) k
   sound_put m o wanted alive here k =
       elim (cases_eq k m) [
-        | inl same ↦ subst (IsSoundMutex (with_thread s t thread ready (put s.mutexes m o))) (sym same) here
+        | inl same ↦ subst (IsSoundMutex (with_thread s t thread ready (put s.mutexes m o) conditions)) (sym same) here
         | inr other ↦
-            sound_alike s (with_thread s t thread ready (put s.mutexes m o)) k
+            sound_alike s (with_thread s t thread ready (put s.mutexes m o) conditions) k
             (at_other holder_in s.mutexes m k o other) (at_other waiters_in s.mutexes m k o other)
             (λ u. kept (λ (x : Thread). wants k x.standing) s.threads t u thread (wanted k other))
             (λ u h live. elim (cases_eq u t) [
@@ -114,11 +115,11 @@ orphan_free t (Some mutex) h = by (is_held_by mutex.holder t) h
     by false k = k
 
 -- a thread that waits for no mutex ends
-pub sound_orphaned : (s : State) (t : ℕ) (thread : Thread) (ready : List ℕ) → IsGood s
+pub sound_orphaned : (s : State) (t : ℕ) (thread : Thread) (ready : List ℕ) (conditions : ℕ → Option Condition) → IsGood s
     → ((m : ℕ) → wants m thread.standing ≡ false) → ((m : ℕ) → wants m (s.threads t).standing ≡ false)
-    → (m : ℕ) → IsSoundMutex (with_thread s t thread ready (orphaned t s.mutexes)) m
-sound_orphaned s t thread ready good wants_none wanted_none m =
-    let r : State = with_thread s t thread ready (orphaned t s.mutexes) in
+    → (m : ℕ) → IsSoundMutex (with_thread s t thread ready (orphaned t s.mutexes) conditions) m
+sound_orphaned s t thread ready conditions good wants_none wanted_none m =
+    let r : State = with_thread s t thread ready (orphaned t s.mutexes) conditions in
     let sound = good.sound m in
     sound_as r m (holder_of r m) (waiters_of s m) refl (orphan_waiters t (s.mutexes m)) sound.order
     (λ u. sound.listed u ∙ sym (kept (λ (x : Thread). wants m x.standing) s.threads t u thread (wants_none m ∙ sym (wanted_none m))))

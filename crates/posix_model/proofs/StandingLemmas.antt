@@ -1,10 +1,12 @@
 -- What one test of a standing says of the others, and what a map gives after a change at one number.
-use Rattle.std.proofs.Common.{◌≡◌, ◌≢◌, ◌∙◌, ap, sym, refl, inl, inr, ℕ, Bool, true, false}
+use Rattle.std.proofs.Common.{◌≡◌, ◌≢◌, ◌∙◌, ap, sym, refl, inl, inr, ℕ, Bool, true, false, arith}
+use Rattle.std.specs.Prelude.{is_some}
 use Rattle.std.proofs.lemmas.Bool.{cases_eq, eqb-true, ne_eqb}
 use Rattle.thread_base.specs.Maps.{put}
 use Rattle.thread_base.proofs.MapLemmas.{put_same, put_other}
-use Rattle.posix_model.specs.State.{Standing, Absent, Ready, Waits, Ended, is_absent, is_ready, is_live, joins, wants}
-use Rattle.posix_model.specs.declared.Wait.TheVariants.{Join, Mutex as OfMutex}
+use Rattle.posix_model.specs.State.{Standing, Absent, Ready, Waits, Ended, is_absent, is_ready, is_live, joins, wants, waits_on, mutex_with, count_due}
+use Rattle.posix_model.specs.Good.{IsCount}
+use Rattle.posix_model.specs.declared.Wait.TheVariants.{Join, Mutex as OfMutex, Cond, Reacquire}
 
 pub never : (b : Bool) → b ≡ true → b ≡ false → ⊥
 never b h k = let e : true ≡ false = sym h ∙ k in absurd (let f : true ≡ false = e in cc)
@@ -51,6 +53,8 @@ joins_wants u m Absent h = refl
 joins_wants u m Ready h = refl
 joins_wants u m (Waits (Join v)) h = refl
 joins_wants u m (Waits (OfMutex k)) h = absurd (let e : false ≡ true = h in cc)
+joins_wants u m (Waits (Cond c k deadline count)) h = refl
+joins_wants u m (Waits (Reacquire k reply count)) h = absurd (let e : false ≡ true = h in cc)
 joins_wants u m (Ended value) h = refl
 
 -- who waits for a mutex waits for no other
@@ -59,7 +63,60 @@ wants_one m k Absent h ne = refl
 wants_one m k Ready h ne = refl
 wants_one m k (Waits (Join v)) h ne = refl
 wants_one m k (Waits (OfMutex n)) h ne = ne_eqb n k (λ e. ne (sym e ∙ eqb-true n m h))
+wants_one m k (Waits (Cond c n deadline count)) h ne = refl
+wants_one m k (Waits (Reacquire n reply count)) h ne = ne_eqb n k (λ e. ne (sym e ∙ eqb-true n m h))
 wants_one m k (Ended value) h ne = refl
+
+-- who can run, waits for an end or a mutex, or is not there any more waits for no condition
+pub ready_waits_on : (c : ℕ) (st : Standing) → is_ready st ≡ true → waits_on c st ≡ false
+ready_waits_on c Absent h = refl
+ready_waits_on c Ready h = refl
+ready_waits_on c (Waits wait) h = absurd (let e : false ≡ true = h in cc)
+ready_waits_on c (Ended value) h = refl
+
+pub joins_waits_on : (u c : ℕ) (st : Standing) → joins u st ≡ true → waits_on c st ≡ false
+joins_waits_on u c Absent h = refl
+joins_waits_on u c Ready h = refl
+joins_waits_on u c (Waits (Join v)) h = refl
+joins_waits_on u c (Waits (OfMutex k)) h = refl
+joins_waits_on u c (Waits (Cond d k deadline count)) h = absurd (let e : false ≡ true = h in cc)
+joins_waits_on u c (Waits (Reacquire k reply count)) h = refl
+joins_waits_on u c (Ended value) h = refl
+
+pub wants_waits_on : (m c : ℕ) (st : Standing) → wants m st ≡ true → waits_on c st ≡ false
+wants_waits_on m c Absent h = refl
+wants_waits_on m c Ready h = refl
+wants_waits_on m c (Waits (Join v)) h = refl
+wants_waits_on m c (Waits (OfMutex k)) h = refl
+wants_waits_on m c (Waits (Cond d k deadline count)) h = absurd (let e : false ≡ true = h in cc)
+wants_waits_on m c (Waits (Reacquire k reply count)) h = refl
+wants_waits_on m c (Ended value) h = refl
+
+pub dead_waits_on : (c : ℕ) (st : Standing) → is_live st ≡ false → waits_on c st ≡ false
+dead_waits_on c Absent h = refl
+dead_waits_on c Ready h = refl
+dead_waits_on c (Waits wait) h = absurd (let e : true ≡ false = h in cc)
+dead_waits_on c (Ended value) h = refl
+
+-- who waits for a condition waits with a mutex
+pub waits_with : (c : ℕ) (st : Standing) → waits_on c st ≡ true → is_some (mutex_with st) ≡ true
+waits_with c Absent h = absurd (let e : false ≡ true = h in cc)
+waits_with c Ready h = absurd (let e : false ≡ true = h in cc)
+waits_with c (Waits (Join v)) h = absurd (let e : false ≡ true = h in cc)
+waits_with c (Waits (OfMutex k)) h = absurd (let e : false ≡ true = h in cc)
+waits_with c (Waits (Cond d k deadline count)) h = refl
+waits_with c (Waits (Reacquire k reply count)) h = absurd (let e : false ≡ true = h in cc)
+waits_with c (Ended value) h = absurd (let e : false ≡ true = h in cc)
+
+-- a thread may have a mutex once
+pub once : IsCount 1
+once = (omega arith, omega arith)
+
+pub dead_once : (st : Standing) → is_live st ≡ false → IsCount (count_due st)
+dead_once Absent h = once
+dead_once Ready h = once
+dead_once (Waits wait) h = absurd (let e : true ≡ false = h in cc)
+dead_once (Ended value) h = once
 
 -- what a map gives after a change
 pub at_same : {A B : Type 0} (f : B → A) (m : ℕ → B) (t u : ℕ) (x : B) → u ≡ t → f (put m t x u) ≡ f x

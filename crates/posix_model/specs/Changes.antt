@@ -2,7 +2,9 @@
 use Rattle.std.specs.Prelude.{ℕ, ◌+◌, ◌-◌, ◌^◌, ◌%◌, ◌==◌, if◌then◌else◌, [], ◌∷◌, ◌++◌, nat_lt, slice_index, slice_set, bit_or}
 use Rattle.thread_base.specs.Maps.{put}
 use Rattle.thread_base.specs.Orders.{without}
-use Rattle.posix_model.specs.State.{State, Thread, Registers, Ready, Waits}
+use Rattle.posix_model.specs.State.{State, Thread, Registers, Leaving, Ready, Waits}
+use Rattle.posix_model.specs.declared.RetakeReply.{RetakeReply}
+use Rattle.posix_model.specs.declared.RetakeReply.TheVariants.{Answer, Cancel}
 use Rattle.posix_model.specs.declared.Wait.{Wait}
 use Rattle.posix_model.specs.Reports.{nothing_told}
 use Rattle.posix_model.specs.declared.Report.{Report}
@@ -64,6 +66,14 @@ await s t wait = record s {
   ready = without t s.ready;
 }
 
+-- the address at which a thread in its exit makes its next exit action: a special address (this project's own)
+abbrev pub cleanup_return : ℕ
+cleanup_return = 0xFFFFFFE0
+
+-- a thread that starts its exit with a value, or takes a new value for it (POSIX.1 pthread_exit)
+abbrev pub in_exit : Thread → ℕ → Thread
+in_exit thread value = record thread { phase = Leaving value; registers = record thread.registers { pc = cleanup_return } }
+
 -- it is told that a waiting thread was answered
 abbrev pub with_answer : Report → ℕ → ℕ → ℕ → Report
 with_answer report t error value = record report {
@@ -76,4 +86,25 @@ abbrev pub answer : Made → ℕ → ℕ → ℕ → Made
 answer g t error value = record {
   state = append g.state t (with_reply (g.state.threads t) error value);
   report = with_answer g.report t error value;
+}
+
+-- the value with which a cancelled thread exits (POSIX.1 PTHREAD_CANCELED)
+abbrev pub canceled : ℕ
+canceled = 0xFFFFFFFF
+
+-- a thread that has its mutex back: it is answered, or starts its exit (POSIX.1 pthread_cond_wait)
+abbrev pub resumed : Thread → RetakeReply → Thread
+resumed thread (Answer error) = with_reply thread error 0
+resumed thread Cancel = in_exit thread canceled
+
+-- an answer is told, and a start of an exit is not
+abbrev pub with_resumed : Report → ℕ → RetakeReply → Report
+with_resumed report t (Answer error) = with_answer report t error 0
+with_resumed report t Cancel = report
+
+-- a waiting thread goes on with its mutex: it becomes ready
+abbrev pub go_on : Made → ℕ → RetakeReply → Made
+go_on g t reply = record {
+  state = append g.state t (resumed (g.state.threads t) reply);
+  report = with_resumed g.report t reply;
 }

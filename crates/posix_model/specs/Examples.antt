@@ -3,7 +3,7 @@ use Rattle.std.specs.Prelude.{ℕ, ◌≡◌, ◌==◌, true, false, List, [], �
 use Rattle.thread_base.specs.Maps.{put}
 use Rattle.thread_base.specs.Priority.{effective, first_greatest}
 use Rattle.rv_exec.specs.declared.Special.TheVariants.{Cleanup}
-use Rattle.posix_model.specs.State.{State, Thread, Standing, Absent, Ready, Waits, Ended, Leaving, no_thread, none_pending, no_mutexes}
+use Rattle.posix_model.specs.State.{State, Thread, Standing, Absent, Ready, Waits, Ended, Leaving, no_thread, none_pending, no_mutexes, no_conditions}
 use Rattle.posix_model.specs.Built.{Built}
 use Rattle.posix_model.specs.Scheduling.{chosen}
 use Rattle.posix_model.specs.Threads.{first_registers}
@@ -66,6 +66,7 @@ six_threads = record {
       4 (thread_with (Waits (Join 2)))) 5 (record (thread_with Ready) { detached = true })) 6 (thread_with Ready);
   ready = 1 ∷ 2 ∷ 5 ∷ 6 ∷ [];
   mutexes = no_mutexes;
+  conditions = no_conditions;
   pending = none_pending;
   memory = [];
   over = None;

@@ -1,12 +1,16 @@
 -- Laws over moves and whole runs, whatever is built.
-use Rattle.std.specs.Prelude.{ℕ, ◌≡◌, ◌≤◌, ◌⊎◌, List}
-use Rattle.thread_base.specs.Priority.{IsEffective}
-use Rattle.posix_model.specs.State.{State}
+use Rattle.std.specs.Prelude.{ℕ, ◌≡◌, ◌≤◌, ◌⊎◌, true, false, List, ◌∷◌, Some, is_some}
+use Rattle.thread_base.specs.Orders.{without, IsOrder}
+use Rattle.thread_base.specs.Priority.{first_greatest, IsEffective}
+use Rattle.posix_model.specs.State.{State, waits_on}
 use Rattle.posix_model.specs.Built.{Rules}
 use Rattle.posix_model.specs.Scheduling.{own, edge, eff}
+use Rattle.posix_model.specs.Conditions.{in_order}
+use Rattle.posix_model.specs.ConditionCalls.{cond_broadcast}
 use Rattle.posix_model.specs.Good.{IsGood}
 use Rattle.posix_model.specs.Runs.{Moment, Allowed, IsRun, Ends, moved, after}
 use Rattle.posix_model.specs.Start.{start}
+use Rattle.posix_model.specs.declared.Arguments.{Arguments}
 use Rattle.posix_model.specs.declared.Move.{Move}
 use Rattle.posix_model.specs.declared.Ending.{Ending}
 
@@ -56,3 +60,16 @@ Goodness =
 -- a chain of waits leads to it (POSIX.1 priority inheritance)
 abbrev pub PriorityIsInherited : Type 0
 PriorityIsInherited = (s : State) (t : ℕ) → 1 ≤ t → t ≤ 64 → IsEffective (own s) (edge s) t (eff s t)
+
+-- of waiters in order the first is the one whom a signal would wake, and then come the others in order
+-- (POSIX.1 pthread_cond_broadcast)
+abbrev pub BestComesFirst : Type 0
+BestComesFirst =
+    (key : ℕ → ℕ) (ts : List ℕ) (t : ℕ) → IsOrder ts → first_greatest key ts ≡ Some t →
+    in_order key ts ≡ t ∷ in_order key (without t ts)
+
+-- after a broadcast nobody waits for the condition (POSIX.1 pthread_cond_broadcast)
+abbrev pub EveryoneIsWoken : Type 0
+EveryoneIsWoken =
+    (s : State) (t : ℕ) (c : Arguments) → IsGood s → is_some (s.conditions c.a) ≡ true →
+    (u : ℕ) → waits_on c.a ((cond_broadcast s t c).made.state.threads u).standing ≡ false

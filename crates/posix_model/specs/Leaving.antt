@@ -2,22 +2,17 @@
 use Rattle.std.specs.Prelude.{ℕ, true, if◌then◌else◌, map, Option, Some, None}
 use Rattle.thread_base.specs.Maps.{put}
 use Rattle.thread_base.specs.Orders.{without}
-use Rattle.posix_model.specs.State.{State, Thread, Leaving, Ended, no_thread}
-use Rattle.posix_model.specs.Changes.{Made, begun, set_thread, answer}
+use Rattle.posix_model.specs.State.{State, Thread, Ended, no_thread}
+use Rattle.posix_model.specs.Changes.{Made, begun, set_thread, in_exit, answer}
 use Rattle.posix_model.specs.Threads.{joiner, some_live}
 use Rattle.posix_model.specs.Mutexes.{orphaned}
 use Rattle.posix_model.specs.Lines.{sig_numbers}
 use Rattle.posix_model.specs.declared.Report.{Report}
 use Rattle.posix_model.specs.declared.Ending.TheVariants.{Exit}
 
--- the address at which a thread in its exit makes its next exit action: a special address (this project's own)
-abbrev pub cleanup_return : ℕ
-cleanup_return = 0xFFFFFFE0
-
 -- a thread starts its exit with a value, or takes a new value for it; it stays ready
 abbrev pub start_exit : State → ℕ → ℕ → State
-start_exit s t value =
-    set_thread s t (record (s.threads t) { phase = Leaving value; registers = record (s.threads t).registers { pc = cleanup_return } })
+start_exit s t value = set_thread s t (in_exit (s.threads t) value)
 
 -- who waits for the end of a thread is answered its value
 abbrev pub answer_joiner : Made → ℕ → Option ℕ → Made

@@ -8,6 +8,8 @@ pub mod Threads
 pub mod Mutexes
 pub mod Leaving
 pub mod Replies
+pub mod Conditions
+pub mod ConditionCalls
 pub mod MutexCalls
 pub mod Calls
 pub mod Deliveries
@@ -19,3 +21,4 @@ pub mod Good
 pub mod Laws
 pub mod Examples
 pub mod MutexExamples
+pub mod ConditionExamples

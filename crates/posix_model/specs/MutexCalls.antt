@@ -3,7 +3,7 @@
 -- plain, and the refusal of lock and trylock about a ceiling has no case.
 use Rattle.std.specs.Prelude.{ℕ, ◌-◌, ◌%◌, ◌==◌, ◌&&◌, ◌||◌, Bool, true, false, not, if◌then◌else◌, [], ◌∷◌, Option, Some, None, is_some, nat_lt, bit_and}
 use Rattle.thread_base.specs.Holders.{is_held_by, count_of, is_free}
-use Rattle.thread_base.specs.declared.Errno.TheVariants.{EPERM, EAGAIN, EBUSY, EINVAL, EDEADLK, ENOSYS}
+use Rattle.thread_base.specs.declared.Errno.TheVariants.{EPERM, EAGAIN, EBUSY, EINVAL, EDEADLK}
 use Rattle.thread_base.specs.declared.mutex.Holder.TheVariants.{Free, Held}
 use Rattle.thread_base.specs.declared.mutex.Kind.{Kind}
 use Rattle.thread_base.specs.declared.mutex.Kind.TheVariants.{Normal, ErrorCheck, Recursive}
@@ -11,6 +11,8 @@ use Rattle.thread_base.specs.declared.mutex.Protocol.TheVariants.{Plain}
 use Rattle.posix_model.specs.State.{State, Mutex}
 use Rattle.posix_model.specs.Changes.{Made, begun}
 use Rattle.posix_model.specs.Mutexes.{most_locks, set_mutex, locked_by, with_waiter, best_waiter, hand}
+use Rattle.posix_model.specs.Conditions.{is_used}
+use Rattle.posix_model.specs.ConditionCalls.{condition_row}
 use Rattle.posix_model.specs.Replies.{Called, values, refused, refusing, blocked}
 use Rattle.posix_model.specs.declared.Arguments.{Arguments}
 use Rattle.posix_model.specs.declared.Wait.TheVariants.{Mutex as OfMutex}
@@ -41,10 +43,11 @@ mutex_init s t c =
     ∷ (is_some (s.mutexes c.a), EBUSY) ∷ [])
     (values (begun (set_mutex s c.a (Some (new_mutex c.b)))) t 0 0)
 
--- a mutex is there no more, where it is free
+-- a mutex is there no more, where it is free and no waiter of a condition uses it
 abbrev pub destroy_of : State → ℕ → ℕ → Option Mutex → Called
 destroy_of s t m None = refused s t EINVAL
-destroy_of s t m (Some mutex) = refusing s t ((not (is_free mutex.holder), EBUSY) ∷ []) (values (begun (set_mutex s m None)) t 0 0)
+destroy_of s t m (Some mutex) =
+    refusing s t ((not (is_free mutex.holder) || is_used s m, EBUSY) ∷ []) (values (begun (set_mutex s m None)) t 0 0)
 
 -- 275: mutex_destroy(mutex) (POSIX.1 pthread_mutex_destroy)
 abbrev pub mutex_destroy : State → ℕ → Arguments → Called
@@ -127,7 +130,7 @@ unlock_of s t m (Some mutex) = refusing s t ((not (is_held_by mutex.holder t), E
 abbrev pub unlock : State → ℕ → Arguments → Called
 unlock s t c = unlock_of s t c.a (s.mutexes c.a)
 
--- the rows of mutexes by number; another number answers ENOSYS
+-- the rows of mutexes by number; another number may be that of a condition's row
 abbrev pub mutex_row : State → ℕ → ℕ → Arguments → Called
 mutex_row s t number c =
     if number == 274 then mutex_init s t c
@@ -135,4 +138,4 @@ mutex_row s t number c =
     else if number == 276 then lock s t c
     else if number == 277 then trylock s t c
     else if number == 278 then unlock s t c
-    else refused s t ENOSYS
+    else condition_row s t number c

@@ -1,14 +1,18 @@
 -- Mutexes by their numbers, and the small changes of them (POSIX.1 mutexes).
 use Rattle.std.specs.Prelude.{ℕ, ◌+◌, if◌then◌else◌, List, [], ◌∷◌, ◌++◌, Option, Some, None}
-use Rattle.thread_base.specs.Holders.{is_held_by, count_of}
+use Rattle.thread_base.specs.Holders.{is_held_by, count_of, is_free}
 use Rattle.thread_base.specs.Maps.{put}
 use Rattle.thread_base.specs.Orders.{without}
 use Rattle.thread_base.specs.Priority.{first_greatest}
 use Rattle.thread_base.specs.declared.mutex.Holder.{Holder}
 use Rattle.thread_base.specs.declared.mutex.Holder.TheVariants.{Free, Held, Orphan}
-use Rattle.posix_model.specs.State.{State, Mutex}
+use Rattle.posix_model.specs.State.{State, Mutex, Standing, Absent, Ready, Waits, Ended, count_due}
 use Rattle.posix_model.specs.Scheduling.{eff}
-use Rattle.posix_model.specs.Changes.{Made, answer}
+use Rattle.posix_model.specs.Changes.{Made, set_thread, go_on}
+use Rattle.posix_model.specs.declared.RetakeReply.{RetakeReply}
+use Rattle.posix_model.specs.declared.RetakeReply.TheVariants.{Answer}
+use Rattle.posix_model.specs.declared.Wait.{Wait}
+use Rattle.posix_model.specs.declared.Wait.TheVariants.{Join, Mutex as OfMutex, Cond, Reacquire}
 
 -- the most that one thread locks a mutex (this project's limit)
 abbrev pub most_locks : ℕ
@@ -48,11 +52,45 @@ with_waiter t mutex = record mutex { waiters = mutex.waiters ++ t ∷ [] }
 abbrev pub best_waiter : State → Mutex → Option ℕ
 best_waiter s mutex = first_greatest (eff s) mutex.waiters
 
--- a released mutex goes to a waiter, who leaves its list and is answered, or is free
+-- what a thread is answered when it has the mutex for which it waits: 0 after lock, and else as was settled
+abbrev pub reply_by : Wait → RetakeReply
+reply_by (Join u) = Answer 0
+reply_by (OfMutex m) = Answer 0
+reply_by (Cond c m deadline count) = Answer 0
+reply_by (Reacquire m reply count) = reply
+
+-- the same by what a thread is doing
+abbrev pub reply_due : Standing → RetakeReply
+reply_due Absent = Answer 0
+reply_due Ready = Answer 0
+reply_due (Waits wait) = reply_by wait
+reply_due (Ended value) = Answer 0
+
+-- a thread has a mutex so often, and goes on
+abbrev pub give : Made → ℕ → Mutex → ℕ → ℕ → RetakeReply → Made
+give g m mutex t count reply = go_on (record g { state = set_mutex g.state m (Some (record mutex { holder = Held t count })) }) t reply
+
+-- a released mutex goes to a waiter, who leaves its list and has it as often as is due to it, or is free
+-- (POSIX.1 pthread_mutex_unlock)
 abbrev pub hand : Made → ℕ → Mutex → Option ℕ → Made
 hand g m mutex None = record g { state = set_mutex g.state m (Some (record mutex { holder = Free })) }
 hand g m mutex (Some u) =
-    answer (record g { state = set_mutex g.state m (Some (record mutex { holder = Held u 1; waiters = without u mutex.waiters })) }) u 0 0
+    give g m (record mutex { waiters = without u mutex.waiters }) u (count_due (g.state.threads u).standing) (reply_due (g.state.threads u).standing)
+
+-- a thread that waited for something else waits for a mutex from now on, behind the others
+abbrev pub requeue : Made → ℕ → Mutex → ℕ → ℕ → RetakeReply → Made
+requeue g m mutex t count reply = record g {
+  state = set_thread (set_mutex g.state m (Some (with_waiter t mutex))) t (record (g.state.threads t) { standing = Waits (Reacquire m reply count) });
+}
+
+-- a mutex that is free goes to a thread at once, and for another it waits
+abbrev pub retake_of : Made → ℕ → Option Mutex → ℕ → ℕ → RetakeReply → Made
+retake_of g m None t count reply = g
+retake_of g m (Some mutex) t count reply = if is_free mutex.holder then give g m mutex t count reply else requeue g m mutex t count reply
+
+-- a thread takes a mutex back, which it had so often (POSIX.1 pthread_cond_wait)
+abbrev pub retake : Made → ℕ → ℕ → ℕ → RetakeReply → Made
+retake g m t count reply = retake_of g m (g.state.mutexes m) t count reply
 
 -- a mutex whose owner ends is an orphan: locked for good, and owned by nobody (POSIX.1 mutexes, not robust)
 abbrev pub orphan_in : ℕ → Option Mutex → Option Mutex

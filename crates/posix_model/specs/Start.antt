@@ -3,7 +3,7 @@ use Rattle.std.specs.Prelude.{ℕ, ◌+◌, false, List, [], ◌∷◌, length, 
 use Rattle.thread_base.specs.Maps.{put}
 use Rattle.thread_base.specs.declared.Policy.TheVariants.{Other}
 use Rattle.rv_exec.specs.Window.{base}
-use Rattle.posix_model.specs.State.{State, Thread, Registers, Normal, Ready, no_thread, none_pending, no_mutexes}
+use Rattle.posix_model.specs.State.{State, Thread, Registers, Normal, Ready, no_thread, none_pending, no_mutexes, no_conditions}
 use Rattle.posix_model.specs.Threads.{start_return}
 use Rattle.posix_model.specs.Runs.{Moment}
 
@@ -29,6 +29,7 @@ start_state memory entry = record {
   threads = put (λ t. no_thread) 1 (main_thread (length memory) entry);
   ready = 1 ∷ [];
   mutexes = no_mutexes;
+  conditions = no_conditions;
   pending = none_pending;
   memory = memory;
   over = None;

@@ -2,6 +2,7 @@
 
 ghost use Rattle.posix_model.specs.Examples as examples;
 ghost use Rattle.posix_model.specs.MutexExamples as mutexes;
+ghost use Rattle.posix_model.specs.ConditionExamples as conditions;
 
 /// The last thread of a chain of waits runs with the priority of the first.
 pub fn chain()
@@ -101,4 +102,44 @@ pub fn destroys()
 /// A mutex whose owner ended stays locked, and nobody gets it.
 pub fn orphans()
     ensures { mutexes.Orphans }
+{}
+
+/// Who waits for a condition lets its mutex go at once, and stands behind the other waiters.
+pub fn condition_waits()
+    ensures { conditions.ConditionWaits }
+{}
+
+/// Which refusal of a wait for a condition comes first.
+pub fn condition_wait_refusals()
+    ensures { conditions.ConditionWaitRefusals }
+{}
+
+/// A signal wakes the waiter of greatest priority, the earliest of equals, who takes its mutex back or waits for it.
+pub fn signals()
+    ensures { conditions.Signals }
+{}
+
+/// A broadcast wakes all in order of their priorities: one has the mutex, the others wait for it.
+pub fn broadcasts()
+    ensures { conditions.Broadcasts }
+{}
+
+/// A recursive mutex comes back from a wait as often as it was locked.
+pub fn saved_counts()
+    ensures { conditions.SavedCounts }
+{}
+
+/// A condition is destroyed only where nobody waits, and a mutex only where no waiter uses it.
+pub fn inits_and_destroys()
+    ensures { conditions.InitsAndDestroys }
+{}
+
+/// Who is woken waits for ever for a mutex whose owner ended.
+pub fn woken_in_vain()
+    ensures { conditions.WokenInVain }
+{}
+
+/// A thread that is cancelled in its wait starts its exit once it has its mutex.
+pub fn cancelled_waits()
+    ensures { conditions.CancelledWaits }
 {}

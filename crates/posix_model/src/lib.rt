@@ -3,7 +3,7 @@
 
 ghost use Rattle.std.specs.Prelude.{◌≡◌};
 ghost use Rattle.posix_model.specs.Reports.{nothing_told};
-ghost use Rattle.posix_model.specs.Laws.{OneRun, Progress, Completion, Goodness, PriorityIsInherited};
+ghost use Rattle.posix_model.specs.Laws.{OneRun, Progress, Completion, Goodness, PriorityIsInherited, BestComesFirst, EveryoneIsWoken};
 ghost use Rattle.posix_model.specs.State.{awaits_end};
 ghost use Rattle.thread_base.specs.Numbers.{code_of};
 
@@ -55,11 +55,30 @@ impl Reply {
     }
 }
 
-/// What a thread waits for: the end of a thread, or a mutex, by its number.
+/// What a thread is answered when it has its mutex back: an error number, 0 for none, or its exit starts.
+#[derive(Clone, Copy, Debug, PartialEq, Eq)]
+pub enum RetakeReply {
+    Answer(u32),
+    Cancel,
+}
+
+/// What a thread waits for: the end of a thread, a mutex, a condition with a mutex, or to have a mutex back
+/// after a condition. `count`, from 1 to 65,535, is how often it had locked the mutex.
 #[derive(Clone, Copy, Debug, PartialEq, Eq)]
 pub enum Wait {
     Join(Tid),
     Mutex(u32),
+    Cond {
+        cond: u32,
+        mutex: u32,
+        deadline: Option<u64>,
+        count: u32,
+    },
+    Reacquire {
+        mutex: u32,
+        reply: RetakeReply,
+        count: u32,
+    },
 }
 
 impl Wait {
@@ -70,6 +89,8 @@ impl Wait {
         match self {
             Wait::Join(u) => u.number() == t.number(),
             Wait::Mutex(_) => false,
+            Wait::Cond { .. } => false,
+            Wait::Reacquire { .. } => false,
         }
     }
 }
@@ -212,6 +233,16 @@ pub fn priority_is_inherited()
     ensures { PriorityIsInherited }
 {}
 
+/// A broadcast wakes first whom a signal would wake, and then the others in the same way.
+pub fn best_comes_first()
+    ensures { BestComesFirst }
+{}
+
+/// After a broadcast nobody waits for the condition.
+pub fn everyone_is_woken()
+    ensures { EveryoneIsWoken }
+{}
+
 /// Within the budget every run so far goes on to a whole run.
 pub fn completion()
     ensures { Completion }
@@ -245,6 +276,12 @@ mod tests {
         assert!(rt; Wait::Join(Tid::at(1)).is_for_end_of(Tid::at(1)));
         assert!(rt; !Wait::Join(Tid::at(1)).is_for_end_of(Tid::at(2)));
         assert!(rt; !Wait::Mutex(1).is_for_end_of(Tid::at(1)));
+        let woken = Wait::Reacquire {
+            mutex: 1,
+            reply: RetakeReply::Answer(0),
+            count: 1,
+        };
+        assert!(rt; !woken.is_for_end_of(Tid::at(1)));
         assert_eq!(rt; Report::nothing().done, 0);
     }
 }
