@@ -1,16 +1,17 @@
-ghost use Rattle.std.specs.Prelude.{slice_index};
+ghost use Rattle.std.specs.Prelude.{◌≤◌, length, slice_index};
 ghost use Rattle.posix_model.specs.Changes.{begun};
 ghost use Rattle.posix_model.specs.Deliveries.{faulted};
 ghost use Rattle.posix_model.specs.Instructions.{returned};
 ghost use Rattle.posix_model.specs.Leaving.{end_of_thread, start_exit};
 ghost use Rattle.kernel_state.specs.View.{view};
-ghost use Rattle.kernel_state.specs.Begun.{CanBegin, IsNoted, IsBegun};
+ghost use Rattle.kernel_state.specs.Begun.{CanBegin, HasNoted, IsNoted, IsBegun};
+ghost use Rattle.calls_thread.specs.Orphans.{with_orphans};
 
 use kernel_state::{Change, Kernel};
 use posix_model::Head;
 use ready_queues::Ready;
 use rv_exec::Special;
-use thread_base::{Sig, Tid};
+use thread_base::{Holder, Sig, Tid};
 
 /// The signal of a special return that is not due.
 const SIGSEGV: u32 = 11;
@@ -30,33 +31,47 @@ pub fn begin_fault<R: Ready + Drop>(k: &mut Kernel<R>, t: Tid, s: Sig)
     k.note_head(t, Head::Fault(s));
 }
 
-/// Notes the end of a thread: its joiner is answered, and then it is gone.
+/// Notes that each mutex that a thread has is an orphan; these are 256 small changes at most.
+fn note_orphans<R: Ready + Drop>(k: &mut Kernel<R>, t: Tid)
+    requires { CanBegin R.order k.old t }
+    ensures noted { HasNoted R.order k.old k.new (begun (with_orphans (view R.order k.old.tables) t)) }
+    ensures count { length k.new.rest.items ≤ 256 }
+{
+    let mut from = 0;
+    while let Some(m) = k.tables().next_owned(t, from) {
+        k.note_more(Change::Hold {
+            mutex: m,
+            holder: Holder::Orphan,
+        });
+        from = m + 1;
+    }
+}
+
+/// Notes the end of a thread: its mutexes are orphans, its joiner is answered, and then it is gone.
 fn note_end<R: Ready + Drop>(k: &mut Kernel<R>, t: Tid, value: u32)
     requires { CanBegin R.order k.old t }
     ensures { IsNoted R.order k.old k.new (end_of_thread (view R.order k.old.tables) t value) }
 {
-    match k.tables().joiner(t) {
-        None => k.note_one(
-            t,
-            Change::End {
-                thread: t,
-                value,
-                joined: false,
-            },
-        ),
-        Some(u) => k.note_two(
-            t,
-            Change::Answer {
+    let joiner = k.tables().joiner(t);
+    note_orphans(k, t);
+    match joiner {
+        None => k.note_more(Change::End {
+            thread: t,
+            value,
+            joined: false,
+        }),
+        Some(u) => {
+            k.note_more(Change::Answer {
                 thread: u,
                 error: 0,
                 value,
-            },
-            Change::End {
+            });
+            k.note_more(Change::End {
                 thread: t,
                 value,
                 joined: true,
-            },
-        ),
+            });
+        }
     }
 }
 

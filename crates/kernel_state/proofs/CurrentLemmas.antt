@@ -15,11 +15,12 @@ use Rattle.posix_model.specs.Changes.{Made}
 use Rattle.posix_model.specs.Threads.{some_live}
 use Rattle.posix_model.specs.Leaving.{over_with_last}
 use Rattle.posix_model.specs.declared.Ending.TheVariants.{Exit}
+use Rattle.posix_model.specs.declared.RetakeReply.TheVariants.{Answer as AnswerBack, Cancel}
 use Rattle.posix_model.proofs.PriorityLaws.{priority_is_inherited}
 use Rattle.kernel_state.specs.View.{AreCurrent}
 use Rattle.kernel_state.specs.Changing.{Can, change_by, prios_by}
 use Rattle.kernel_state.specs.declared.change.Change.{Change}
-use Rattle.kernel_state.specs.declared.change.Change.TheVariants.{Reply, ToEnd, Create, StartExit, Await, Answer, Detach, Free, End, Output, Over, Pend, Deliver}
+use Rattle.kernel_state.specs.declared.change.Change.TheVariants.{Reply, ToEnd, Create, StartExit, Await, Answer, Detach, Free, End, Output, Over, Pend, Deliver, MakeMutex, DestroyMutex, Hold, AddMutexWaiter, DropMutexWaiter, MakeCondition, DestroyCondition, EnterCondition, LeaveCondition, AwaitNext, GoOn}
 
 -- one thread and the ready list change
 current_but : (s r : State) (p q : ℕ → ℕ) (t : ℕ) → AreCurrent p s
@@ -101,6 +102,18 @@ current_by (Output descriptor buffer length) g p can current = current
 current_by (Over ending) g p can current = alike g.state _ p refl refl current
 current_by (Pend t signal) g p can current = alike g.state _ p refl refl current
 current_by (Deliver t signal) g p can current = alike g.state _ p refl refl current
+current_by (MakeMutex m kind protocol) g p can current = alike g.state _ p refl refl current
+current_by (DestroyMutex m) g p can current = alike g.state _ p refl refl current
+current_by (Hold m holder) g p can current = alike g.state _ p refl refl current
+current_by (AddMutexWaiter m t) g p can current = alike g.state _ p refl refl current
+current_by (DropMutexWaiter m t) g p can current = alike g.state _ p refl refl current
+current_by (MakeCondition c) g p can current = alike g.state _ p refl refl current
+current_by (DestroyCondition c) g p can current = alike g.state _ p refl refl current
+current_by (EnterCondition c t m) g p can current = alike g.state _ p refl refl current
+current_by (LeaveCondition c t) g p can current = alike g.state _ p refl refl current
+current_by (AwaitNext t wait) g p can current = kept_current g.state t _ g.state.ready p current refl (λ u h. h)
+current_by (GoOn t (AnswerBack error)) g p can current = come_current g.state t _ p current
+current_by (GoOn t Cancel) g p can current = come_current g.state t _ p current
 
 -- without edges a thread has its own priority
 no_way : (s : State) (u t : ℕ) → Leads (edge s) u t → u ≡ t

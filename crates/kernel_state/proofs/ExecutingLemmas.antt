@@ -4,6 +4,8 @@ use Rattle.thread_base.specs.Maps.{put}
 use Rattle.thread_base.proofs.MapLemmas.{put_same, put-put, put_got}
 use Rattle.context_frames.specs.Contexts.{saved_of}
 use Rattle.context_frames.specs.declared.Saved.{Saved}
+use Rattle.cond_table.specs.ConditionMap.{conditions as condition_map}
+use Rattle.mutex_table.specs.MutexMap.{mutexes as mutex_map}
 use Rattle.thread_table.specs.Rows.{rows}
 use Rattle.thread_table.specs.declared.Row.{Row}
 use Rattle.rv_exec.specs.Meaning.{Effect, Goes, Calls, Faults, Returns, effect}
@@ -11,10 +13,10 @@ use Rattle.rv_exec.specs.Outcome.{HasEffect}
 use Rattle.rv_exec.specs.declared.Event.{Event}
 use Rattle.rv_exec.specs.declared.Event.TheVariants.{Next, Ecall, Fault, Return}
 use Rattle.rv_exec.specs.declared.Regs.{Regs}
-use Rattle.posix_model.specs.State.{State, Registers, is_absent, no_mutexes}
+use Rattle.posix_model.specs.State.{State, Registers, is_absent}
 use Rattle.posix_model.specs.Changes.{set_registers}
 use Rattle.posix_model.specs.Threads.{exists}
-use Rattle.kernel_state.specs.View.{view, context_of, contexts_of, registers_of, lives_of, pending_of, thread_of, threads_of}
+use Rattle.kernel_state.specs.View.{view, context_of, contexts_of, registers_of, lives_of, mutexes_of, conditions_of, pending_of, thread_of, threads_of}
 use Rattle.kernel_state.specs.Executing.{effect_at, HasExecuted}
 use Rattle.kernel_state.specs.declared.life.Life.{Life}
 use Rattle.kernel_state.specs.declared.tables.Tables.{Tables}
@@ -67,14 +69,15 @@ module _ {R : Type 0} (order : R → List ℕ) (k : Tables R) (regs : Regs) (mem
       let contexts = sym (put-put (λ u. context_of (saved_of k.frames u)) k.placed (registers_of k.regs) (registers_of regs)) in
       let threads = ap (threads_of (rows k.threads) (lives_of k.lives)) contexts
       ∙ row_registers (rows k.threads k.placed) (rows k.threads) (lives_of k.lives) (contexts_of k) k.placed (registers_of regs) refl there in
-      λ i. record { threads = threads i; ready = order k.ready; mutexes = no_mutexes; pending = pending_of k.fault; memory = memory; over = k.over }
+      λ i. record { threads = threads i; ready = order k.ready; mutexes = mutexes_of (mutex_map k.mutexes); conditions = conditions_of (condition_map k.conditions); pending = pending_of k.fault; memory = memory; over = k.over }
 
   still : registers_of regs ≡ registers_of k.regs → memory ≡ k.memory → after ≡ view order k
   unfolding view after
   still e f = λ i. record {
     threads = threads_of (rows k.threads) (lives_of k.lives) (put (λ u. context_of (saved_of k.frames u)) k.placed (e i));
     ready = order k.ready;
-    mutexes = no_mutexes;
+    mutexes = mutexes_of (mutex_map k.mutexes);
+    conditions = conditions_of (condition_map k.conditions);
     pending = pending_of k.fault;
     memory = f i;
     over = k.over;

@@ -1,3 +1,5 @@
+pub mod MutexLemmas
+pub mod ConditionLemmas
 pub mod ViewLemmas
 pub mod CurrentLemmas
 pub mod StartLemmas

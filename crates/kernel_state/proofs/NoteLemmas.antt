@@ -1,18 +1,17 @@
 -- Small changes that were noted on an idle kernel.
-use Rattle.std.proofs.Common.{◌≡◌, ◌∙◌, ap, sym, refl, subst, ℕ, true, false, Some, List, [], ◌∷◌}
+use Rattle.std.proofs.Common.{◌≡◌, ◌∙◌, ap, sym, refl, subst, ℕ, true, false, Some, List, [], ◌∷◌, ◌++◌}
 use Rattle.posix_model.specs.Changes.{Made, begun}
 use Rattle.posix_model.specs.State.{State}
-use Rattle.posix_model.specs.Deliveries.{Delivery, next_delivery, delivered, deliver, set_pending}
+use Rattle.posix_model.specs.Deliveries.{next_delivery, delivered, deliver, set_pending}
 use Rattle.posix_model.specs.Reports.{nothing_told}
-use Rattle.posix_model.specs.declared.Head.{Head}
 use Rattle.posix_model.specs.declared.Head.TheVariants.{Deliver as DeliverHead}
 use Rattle.posix_model.specs.declared.Ending.TheVariants.{Killed}
 use Rattle.kernel_state.specs.View.{view, made, one_pending}
-use Rattle.kernel_state.specs.Changing.{change_by, owed, AllCan}
+use Rattle.kernel_state.specs.Changing.{Can, change_by, owed, AllCan}
 use Rattle.kernel_state.specs.declared.change.Change.{Change}
 use Rattle.kernel_state.specs.declared.change.Change.TheVariants.{Deliver}
 use Rattle.kernel_state.specs.declared.kernel.Kernel.{Kernel}
-use Rattle.kernel_state.specs.Begun.{CanBegin, IsNoted, IsBegun}
+use Rattle.kernel_state.specs.Begun.{CanBegin, IsNoted, NotesMore, IsBegun}
 use Rattle.kernel_state.specs.Moves.{is_nil, owed_by, told_by}
 use Rattle.kernel_state.proofs.PendingLemmas.{pends_once}
 
@@ -30,6 +29,30 @@ module _ {R : Type 0} (order : R → List ℕ) (k : Kernel R) (t : ℕ) (ready :
     can = subst (λ xs. AllCan (made order k.tables) xs) (sym e) (subst (λ (g : Made). AllCan g changes) (sym fresh) can);
     others = others;
   }
+
+-- one more change is owed behind the others, and may be made in its turn
+more_owed : (changes : List Change) (change : Change) (g : Made) → owed g (changes ++ change ∷ []) ≡ change_by change (owed g changes)
+more_owed [] change g = refl
+more_owed (first ∷ changes) change g = more_owed changes change (change_by first g)
+
+more_can : (changes : List Change) (change : Change) (g : Made) → AllCan g changes → Can change (owed g changes) → AllCan g (changes ++ change ∷ [])
+more_can [] change g all can = (can, tt)
+more_can (first ∷ changes) change g all can = (all.0, more_can changes change (change_by first g) all.1 can)
+
+some_more : (changes : List Change) (change : Change) → is_nil (changes ++ change ∷ []) ≡ false
+some_more [] change = refl
+some_more (first ∷ changes) change = refl
+
+pub notes_more : {R : Type 0} (order : R → List ℕ) (k q : Kernel R) (change : Change) → q.rest.items ≡ k.rest.items ++ change ∷ [] → q ≡ record k { rest = q.rest }
+    → NotesMore order k q change
+notes_more order k q change e others first g noted can =
+    let start = made order first.tables in
+    record {
+      begun = ap is_nil e ∙ some_more k.rest.items change;
+      owed = ap (owed start) e ∙ more_owed k.rest.items change start ∙ ap (change_by change) noted.owed;
+      can = subst (λ xs. AllCan start xs) (sym e) (more_can k.rest.items change start noted.can (subst (λ (x : Made). Can change x) (sym noted.owed) can));
+      others = others ∙ ap (λ (x : Kernel _). record x { rest = q.rest }) noted.others;
+    }
 
 -- what is owed where nothing is left to make
 nil_is : {A : Type 0} (xs : List A) → is_nil xs ≡ true → xs ≡ []

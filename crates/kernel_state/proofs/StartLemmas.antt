@@ -3,11 +3,13 @@ use Rattle.std.proofs.Common.{◌≡◌, ◌≢◌, ◌∙◌, ap, refl, ℕ, tr
 use Rattle.thread_base.specs.Maps.{put}
 use Rattle.thread_base.specs.Priority.{tids}
 use Rattle.thread_base.proofs.MapLemmas.{put_is, put_same, put_other}
+use Rattle.cond_table.specs.ConditionMap.{conditions as condition_map}
+use Rattle.mutex_table.specs.MutexMap.{mutexes as mutex_map}
 use Rattle.thread_table.specs.Rows.{rows, free_number, put_found}
 use Rattle.thread_table.specs.declared.Row.{Row}
-use Rattle.posix_model.specs.State.{Thread, is_absent, is_ready, no_thread, no_mutexes}
+use Rattle.posix_model.specs.State.{Thread, is_absent, is_ready, no_thread}
 use Rattle.posix_model.specs.Start.{start_state, start_registers, main_thread}
-use Rattle.kernel_state.specs.View.{view, AreCurrent, thread_of, threads_of, lives_of, contexts_of, pending_of, no_life, main_row}
+use Rattle.kernel_state.specs.View.{view, AreCurrent, thread_of, threads_of, lives_of, contexts_of, mutexes_of, conditions_of, pending_of, no_life, main_row}
 use Rattle.kernel_state.specs.Changing.{IsListed}
 use Rattle.kernel_state.specs.declared.tables.Tables.{Tables}
 use Rattle.kernel_state.proofs.CurrentLemmas.{come_current}
@@ -27,17 +29,17 @@ first_made map none row given result e f g h =
 
 module _ {R : Type 0} (order : R → List ℕ) where
   pub view_start : (k : Tables R) (memory : List ℕ) (entry : ℕ) → rows k.threads ≡ put (λ t. None) 1 (Some main_row) → lives_of k.lives ≡ (λ t. no_life)
-      → contexts_of k 1 ≡ start_registers (length memory) entry → order k.ready ≡ 1 ∷ [] → k.fault ≡ None → k.memory ≡ memory → k.over ≡ None
+      → contexts_of k 1 ≡ start_registers (length memory) entry → order k.ready ≡ 1 ∷ [] → mutex_map k.mutexes ≡ (λ m. None) → condition_map k.conditions ≡ (λ c. None) → k.fault ≡ None → k.memory ≡ memory → k.over ≡ None
       → view order k ≡ start_state memory entry
   unfolding view
-  view_start k memory entry a b c d e f g =
+  view_start k memory entry a b c d h n e f g =
       let at_one : rows k.threads 1 ≡ Some main_row = ap (λ (m : ℕ → Option Row). m 1) a ∙ put_same (λ t. None) 1 (Some main_row) in
       let at_other : (u : ℕ) → u ≢ 1 → rows k.threads u ≡ None = λ u ne. ap (λ (m : ℕ → Option Row). m u) a ∙ put_other (λ t. None) 1 (Some main_row) u ne in
       let threads : threads_of (rows k.threads) (lives_of k.lives) (contexts_of k) ≡ put (λ t. no_thread) 1 (main_thread (length memory) entry) =
       put_is (λ t. no_thread) (threads_of (rows k.threads) (lives_of k.lives) (contexts_of k)) 1 (main_thread (length memory) entry)
       (λ i. thread_of (at_one i) (b i 1) (c i))
       (λ u ne i. thread_of (at_other u ne i) (lives_of k.lives u) (contexts_of k u)) in
-      λ i. record { threads = threads i; ready = d i; mutexes = no_mutexes; pending = pending_of (e i); memory = f i; over = g i }
+      λ i. record { threads = threads i; ready = d i; mutexes = mutexes_of (h i); conditions = conditions_of (n i); pending = pending_of (e i); memory = f i; over = g i }
 
 -- nobody is ready
 no_one : (p : ℕ → ℕ) (memory : List ℕ) (entry : ℕ) → AreCurrent p (record (start_state memory entry) { threads = λ t. no_thread; ready = [] })

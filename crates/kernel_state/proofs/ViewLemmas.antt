@@ -7,18 +7,21 @@ use Rattle.std.specs.Option.{IsSome}
 use Rattle.thread_base.specs.Maps.{put}
 use Rattle.thread_base.proofs.MapLemmas.{put_is, put_same, put_other, put-put, put_comm, put_got}
 use Rattle.thread_table.specs.declared.Row.{Row}
-use Rattle.posix_model.specs.State.{State, Thread, Registers, is_absent, is_live, no_thread, none_pending, no_mutexes}
+use Rattle.posix_model.specs.State.{State, Thread, Registers, is_absent, is_live, no_thread, none_pending}
 use Rattle.thread_base.specs.Priority.{tids}
 use Rattle.thread_table.specs.Rows.{rows, free_number as free_row, put_found, is_live as live_row, live_count}
 use Rattle.context_frames.specs.declared.Saved.{Saved}
 use Rattle.thread_base.specs.Orders.{without}
 use Rattle.posix_model.specs.Changes.{set_thread}
-use Rattle.posix_model.specs.Mutexes.{orphaned}
+use Rattle.cond_table.specs.ConditionMap.{conditions as condition_map}
+use Rattle.mutex_table.specs.MutexMap.{mutexes as mutex_map}
+use Rattle.kernel_state.specs.Changing.{HasNoMutex}
+use Rattle.kernel_state.proofs.MutexLemmas.{none_orphaned}
 use Rattle.posix_model.specs.Leaving.{without_thread, with_end}
 use Rattle.posix_model.specs.Lines.{sig_numbers}
 use Rattle.posix_model.specs.declared.Report.{Report}
 use Rattle.posix_model.specs.Threads.{exists, free_number, some_live}
-use Rattle.kernel_state.specs.View.{context_of, contexts_of, lives_of, pending_of, thread_by, thread_of, threads_of, standing_of, view, with_ready}
+use Rattle.kernel_state.specs.View.{context_of, contexts_of, lives_of, mutexes_of, conditions_of, pending_of, thread_by, thread_of, threads_of, standing_of, view, with_ready}
 use Rattle.kernel_state.specs.declared.tables.Tables.{Tables}
 use Rattle.kernel_state.specs.declared.life.Life.{Life}
 use Rattle.posix_model.specs.declared.Wait.{Wait}
@@ -81,14 +84,14 @@ module _ {R : Type 0} (order : R → List ℕ) where
   -- a thread is kept otherwise, and nothing else changes
   pub view_kept : (k q : Tables R) (t : ℕ) (row : Row) (life : Life) (regs : Registers)
       → rows q.threads ≡ put (rows k.threads) t (Some row) → lives_of q.lives ≡ put (lives_of k.lives) t life → contexts_of q ≡ put (contexts_of k) t regs
-      → order q.ready ≡ order k.ready → q.fault ≡ k.fault → q.memory ≡ k.memory → q.over ≡ k.over
+      → order q.ready ≡ order k.ready → q.mutexes ≡ k.mutexes → q.conditions ≡ k.conditions → q.fault ≡ k.fault → q.memory ≡ k.memory → q.over ≡ k.over
       → view order q ≡ set_thread (view order k) t (thread_by row life regs)
   unfolding view
-  view_kept k q t row life regs a b c d e f g =
+  view_kept k q t row life regs a b c d h n e f g =
       let changed : threads_of (rows q.threads) (lives_of q.lives) (contexts_of q) ≡ threads_of (put (rows k.threads) t (Some row)) (put (lives_of k.lives) t life) (put (contexts_of k) t regs) =
       λ i. threads_of (a i) (b i) (c i) in
       let threads = changed ∙ threads_put (rows k.threads) (lives_of k.lives) (contexts_of k) t row life regs in
-      λ i. record { threads = threads i; ready = d i; mutexes = no_mutexes; pending = pending_of (e i); memory = f i; over = g i }
+      λ i. record { threads = threads i; ready = d i; mutexes = mutexes_of (mutex_map (h i)); conditions = conditions_of (condition_map (n i)); pending = pending_of (e i); memory = f i; over = g i }
 
   -- there is a row where there is a thread
   pub view_row : (k : Tables R) (t : ℕ) → exists (view order k) t ≡ true → IsSome (rows k.threads t)
@@ -112,14 +115,14 @@ module _ {R : Type 0} (order : R → List ℕ) where
 
   -- the number of a thread is free
   pub view_freed : (k q : Tables R) (t : ℕ) → rows q.threads ≡ put (rows k.threads) t None → q.lives ≡ k.lives → contexts_of q ≡ contexts_of k
-      → order q.ready ≡ order k.ready → q.fault ≡ k.fault → q.memory ≡ k.memory → q.over ≡ k.over
+      → order q.ready ≡ order k.ready → q.mutexes ≡ k.mutexes → q.conditions ≡ k.conditions → q.fault ≡ k.fault → q.memory ≡ k.memory → q.over ≡ k.over
       → view order q ≡ set_thread (view order k) t no_thread
   unfolding view
-  view_freed k q t a b c d e f g =
+  view_freed k q t a b c d h n e f g =
       let changed : threads_of (rows q.threads) (lives_of q.lives) (contexts_of q) ≡ threads_of (put (rows k.threads) t None) (lives_of k.lives) (contexts_of k) =
       λ i. threads_of (a i) (lives_of (b i)) (c i) in
       let threads = changed ∙ threads_freed (rows k.threads) (lives_of k.lives) (contexts_of k) t in
-      λ i. record { threads = threads i; ready = d i; mutexes = no_mutexes; pending = pending_of (e i); memory = f i; over = g i }
+      λ i. record { threads = threads i; ready = d i; mutexes = mutexes_of (mutex_map (h i)); conditions = conditions_of (condition_map (n i)); pending = pending_of (e i); memory = f i; over = g i }
 
 live_by : (ended : Option ℕ) (wait : Option Wait) → is_live (standing_of ended wait) ≡ is_none ended
 live_by (Some value) wait = refl
@@ -157,16 +160,11 @@ module _ {R : Type 0} (order : R → List ℕ) where
       ∙ some_counted (λ t. live_row (rows k.threads t)) tids 0
       ∙ sym (λ i. list_any (λ t. row_live (rows k.threads t) (lives_of k.lives t) (contexts_of k t) i) tids)
 
-  -- the tables show no mutex
-  pub view_mutexes : (k : Tables R) → (view order k).mutexes ≡ no_mutexes
-  unfolding view
-  view_mutexes k = refl
-
 -- a thread is gone, nothing pended on it, and it had no mutex
-pub gone_calmly : (s : State) (t : ℕ) (left : Thread) → s.pending ≡ none_pending → s.mutexes ≡ no_mutexes → with_ready (set_thread s t left) (without t s.ready) ≡ without_thread s t left
+pub gone_calmly : (s : State) (t : ℕ) (left : Thread) → s.pending ≡ none_pending → HasNoMutex s t → with_ready (set_thread s t left) (without t s.ready) ≡ without_thread s t left
 gone_calmly s t left calm bare =
     let same : put s.pending t (λ sig. 0) ≡ s.pending = ap (λ (m : ℕ → ℕ → ℕ). put m t (λ sig. 0)) calm ∙ put_got none_pending t ∙ sym calm in
-    let none : s.mutexes ≡ orphaned t s.mutexes = bare ∙ ap (orphaned t) (sym bare) in
+    let none = none_orphaned s t bare in
     λ i. record (set_thread s t left) { ready = without t s.ready; mutexes = none i; pending = sym same i }
 
 none_dropped : map (none_pending 0) sig_numbers ≡ replicate 32 0

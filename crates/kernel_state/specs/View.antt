@@ -6,10 +6,13 @@ use Rattle.thread_base.specs.declared.Policy.TheVariants.{Other}
 use Rattle.rv_exec.specs.declared.Regs.{Regs}
 use Rattle.thread_table.specs.Rows.{rows}
 use Rattle.thread_table.specs.declared.Row.{Row}
+use Rattle.mutex_table.specs.MutexMap.{mutexes as mutex_map, Mutex as KeptMutex}
+use Rattle.mutex_table.specs.declared.Look.{Look}
+use Rattle.cond_table.specs.ConditionMap.{conditions as condition_map, Condition as KeptCondition}
 use Rattle.context_frames.specs.Contexts.{saved_of}
 use Rattle.context_frames.specs.declared.Saved.{Saved}
 use Rattle.context_frames.specs.declared.Saved.TheVariants.{User, Tail, Fresh}
-use Rattle.posix_model.specs.State.{State, Thread, Registers, Phase, Normal, Leaving, Standing, Ready, Waits, Ended, no_thread, none_pending, no_mutexes}
+use Rattle.posix_model.specs.State.{State, Thread, Registers, Phase, Normal, Leaving, Standing, Ready, Waits, Ended, no_thread, none_pending, Mutex, Condition}
 use Rattle.posix_model.specs.Scheduling.{own}
 use Rattle.posix_model.specs.Changes.{Made}
 use Rattle.posix_model.specs.declared.Wait.{Wait}
@@ -86,12 +89,40 @@ pending_of (Some fault) = one_pending fault.thread fault.signal
 abbrev pub contexts_of : {R : Type 0} → Tables R → ℕ → Registers
 contexts_of k = put (λ t. context_of (saved_of k.frames t)) k.placed (registers_of k.regs)
 
--- the machine state that the tables show; no mutexes are kept yet
+-- a mutex as its table keeps it
+abbrev pub mutex_of : Option KeptMutex → Option Mutex
+mutex_of None = None
+mutex_of (Some mutex) = Some (record { kind = mutex.kind; protocol = mutex.protocol; holder = mutex.holder; waiters = mutex.waiters })
+
+-- all numbers' mutexes
+abbrev pub mutexes_of : (ℕ → Option KeptMutex) → ℕ → Option Mutex
+mutexes_of map m = mutex_of (map m)
+
+-- the mutex of what it does and who has it, and of who waits for it
+abbrev pub seen : Look → List ℕ → Mutex
+seen look waiters = record { kind = look.kind; protocol = look.protocol; holder = look.holder; waiters = waiters }
+
+-- the same where there is one
+abbrev pub mutex_by : Option Look → List ℕ → Option Mutex
+mutex_by None waiters = None
+mutex_by (Some look) waiters = Some (seen look waiters)
+
+-- a condition as its table keeps it
+abbrev pub condition_of : Option KeptCondition → Option Condition
+condition_of None = None
+condition_of (Some condition) = Some (record { mutex = condition.mutex; waiters = condition.waiters })
+
+-- all numbers' conditions
+abbrev pub conditions_of : (ℕ → Option KeptCondition) → ℕ → Option Condition
+conditions_of map c = condition_of (map c)
+
+-- the machine state that the tables show
 unfoldable pub view : {R : Type 0} → (R → List ℕ) → Tables R → State
 view order k = record {
   threads = threads_of (rows k.threads) (lives_of k.lives) (contexts_of k);
   ready = order k.ready;
-  mutexes = no_mutexes;
+  mutexes = mutexes_of (mutex_map k.mutexes);
+  conditions = conditions_of (condition_map k.conditions);
   pending = pending_of k.fault;
   memory = k.memory;
   over = k.over;

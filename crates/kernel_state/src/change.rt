@@ -1,5 +1,5 @@
-use posix_model::{Ending, Wait};
-use thread_base::{Policy, Prio, Sig, Tid};
+use posix_model::{Ending, RetakeReply, Wait};
+use thread_base::{Holder, Kind, Policy, Prio, Protocol, Sig, Tid};
 
 /// What a new thread begins with: its priority and policy, whether it is detached, its routine with an
 /// argument, and its stack.
@@ -13,8 +13,8 @@ pub struct Beginning {
     pub stack: u32,
 }
 
-/// One small change of the machine, with what it tells. It writes one thread's record, one place of the
-/// ready list and one thing of the process at most.
+/// One small change of the machine, with what it tells. It writes one thread's record, one mutex, condition or
+/// other thing, and one place of one list at most.
 #[derive(Clone, Copy, Debug)]
 pub enum Change {
     /// The caller of a call is answered.
@@ -81,6 +81,60 @@ pub enum Change {
     Deliver {
         thread: Tid,
         signal: Sig,
+    },
+    /// A mutex is made, which is free.
+    MakeMutex {
+        mutex: u32,
+        kind: Kind,
+        protocol: Protocol,
+    },
+    /// A mutex is there no more.
+    DestroyMutex {
+        mutex: u32,
+    },
+    /// A mutex has another holder, or none; its waiters stay.
+    Hold {
+        mutex: u32,
+        holder: Holder,
+    },
+    /// A thread stands behind the others that wait for a mutex.
+    AddMutexWaiter {
+        mutex: u32,
+        thread: Tid,
+    },
+    /// A thread stands among those that wait for a mutex no more.
+    DropMutexWaiter {
+        mutex: u32,
+        thread: Tid,
+    },
+    /// A condition is made, for which nobody waits.
+    MakeCondition {
+        cond: u32,
+    },
+    /// A condition is there no more.
+    DestroyCondition {
+        cond: u32,
+    },
+    /// A thread stands behind the others that wait for a condition, with the mutex that they all wait with.
+    EnterCondition {
+        cond: u32,
+        thread: Tid,
+        mutex: u32,
+    },
+    /// A thread stands among those that wait for a condition no more.
+    LeaveCondition {
+        cond: u32,
+        thread: Tid,
+    },
+    /// A waiting thread waits for something else from now on.
+    AwaitNext {
+        thread: Tid,
+        wait: Wait,
+    },
+    /// A waiting thread has its mutex back: it is answered, or starts its exit, and becomes ready.
+    GoOn {
+        thread: Tid,
+        reply: RetakeReply,
     },
 }
 

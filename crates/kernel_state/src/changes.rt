@@ -6,16 +6,19 @@ ghost use Rattle.posix_model.specs.Threads.{exists};
 ghost use Rattle.posix_model.specs.Changes.{answered as answered_of, set_thread, append, with_reply, with_answer};
 ghost use Rattle.posix_model.specs.Leaving.{over_with_last, without_thread};
 ghost use Rattle.kernel_state.specs.View.{view, made, kept_thread, registers_of, AreCurrent};
-ghost use Rattle.kernel_state.specs.Changing.{begun_thread, left_by, change_by, prios_by, Can, IsListed};
+ghost use Rattle.kernel_state.specs.Changing.{begun_thread, remains_of, change_by, prios_by, Can, IsListed, HasNoMutex};
 
 use crate::change::{Beginning, Change};
 use crate::life::Life;
 use crate::tables::{Fault, Kept, Tables};
-use posix_model::{Ending, Report, Wait};
+use posix_model::{Ending, Report, RetakeReply, Wait};
 use ready_queues::Ready;
 use rv_exec::{CLEANUP_RETURN, Regs, START_RETURN};
 use thread_base::{Prio, Sig, Tid};
 use thread_table::Row;
+
+/// The value with which a cancelled thread exits (POSIX.1 PTHREAD_CANCELED).
+const CANCELED: u32 = 0xffff_ffff;
 
 impl<R: Ready + Drop> Tables<R> {
     /// The base priority of a thread that is there.
@@ -106,6 +109,49 @@ impl<R: Ready + Drop> Tables<R> {
         tell_answer(&mut self.report, t, error, value);
     }
 
+    /// Lets a waiting thread wait for something else.
+    #[tactic(auto, unfolding(crate::specs::View::made))]
+    fn await_next(&mut self, t: Tid, wait: Wait)
+        requires { Can (Change.AwaitNext t wait) (made R.order self.old) }
+        ensures made { made R.order self.new ≡ change_by (Change.AwaitNext t wait) (made R.order self.old) }
+        ensures prios { R.prio self.new.ready ≡ prios_by (Change.AwaitNext t wait) (view R.order self.old) (R.prio self.old.ready) }
+    {
+        let mut kept = self.there(t);
+        kept.life.wait = Some(wait);
+        self.keep(t, kept);
+    }
+
+    /// Starts the exit of a waiting thread that was cancelled, which becomes ready.
+    #[tactic(auto, unfolding(crate::specs::View::made))]
+    fn cancel(&mut self, t: Tid)
+        requires { Can (Change.GoOn t RetakeReply.Cancel) (made R.order self.old) }
+        ensures made { made R.order self.new ≡ change_by (Change.GoOn t RetakeReply.Cancel) (made R.order self.old) }
+        ensures prios { R.prio self.new.ready ≡ prios_by (Change.GoOn t RetakeReply.Cancel) (view R.order self.old) (R.prio self.old.ready) }
+    {
+        let base = self.base(t);
+        let mut kept = self.there(t);
+        kept.row.used = 0;
+        kept.life = Life {
+            wait: None,
+            leaving: Some(CANCELED),
+        };
+        kept.regs.pc = CLEANUP_RETURN;
+        self.keep(t, kept);
+        self.put_behind(t, base);
+    }
+
+    /// Answers a waiting thread that has its mutex back, or starts its exit; it becomes ready.
+    fn go_on(&mut self, t: Tid, reply: RetakeReply)
+        requires { Can (Change.GoOn t reply) (made R.order self.old) }
+        ensures made { made R.order self.new ≡ change_by (Change.GoOn t reply) (made R.order self.old) }
+        ensures prios { R.prio self.new.ready ≡ prios_by (Change.GoOn t reply) (view R.order self.old) (R.prio self.old.ready) }
+    {
+        match reply {
+            RetakeReply::Answer(error) => self.answer(t, error, 0),
+            RetakeReply::Cancel => self.cancel(t),
+        }
+    }
+
     /// Makes a new thread, which is ready behind the others.
     #[tactic(auto, unfolding(crate::specs::View::made))]
     fn create(&mut self, t: Tid, beginning: Beginning)
@@ -143,7 +189,7 @@ impl<R: Ready + Drop> Tables<R> {
     /// What is left of a thread that ends: its value, where nobody has got it and somebody may.
     fn leave(&mut self, t: Tid, value: u32, joined: bool)
         requires { exists (view R.order self.old) t ≡ true }
-        ensures view { view R.order self.new ≡ set_thread (view R.order self.old) t (left_by ((view R.order self.old).threads t) value joined) }
+        ensures view { view R.order self.new ≡ set_thread (view R.order self.old) t (remains_of ((view R.order self.old).threads t) value joined) }
         ensures ready { self.new.ready ≡ self.old.ready }
         ensures report { self.new.report ≡ self.old.report }
     {
@@ -171,7 +217,8 @@ impl<R: Ready + Drop> Tables<R> {
     fn leave_list(&mut self, t: Tid, value: u32, joined: bool)
         requires listed { IsListed (view R.order self.old) t }
         requires calm { (view R.order self.old).pending ≡ none_pending }
-        ensures view { view R.order self.new ≡ over_with_last (without_thread (view R.order self.old) t (left_by ((view R.order self.old).threads t) value joined)) }
+        requires unheld { HasNoMutex (view R.order self.old) t }
+        ensures view { view R.order self.new ≡ over_with_last (without_thread (view R.order self.old) t (remains_of ((view R.order self.old).threads t) value joined)) }
         ensures prios { R.prio self.new.ready ≡ R.prio self.old.ready }
         ensures report { self.new.report ≡ self.old.report }
     {
@@ -279,6 +326,25 @@ impl<R: Ready + Drop> Tables<R> {
             Change::Over { ending } => self.finish(ending),
             Change::Pend { thread, signal } => self.pend(thread, signal),
             Change::Deliver { thread, signal } => self.deliver(thread, signal),
+            Change::MakeMutex {
+                mutex,
+                kind,
+                protocol,
+            } => self.make_mutex(mutex, kind, protocol),
+            Change::DestroyMutex { mutex } => self.destroy_mutex(mutex),
+            Change::Hold { mutex, holder } => self.hold_mutex(mutex, holder),
+            Change::AddMutexWaiter { mutex, thread } => self.add_mutex_waiter(mutex, thread),
+            Change::DropMutexWaiter { mutex, thread } => self.drop_mutex_waiter(mutex, thread),
+            Change::MakeCondition { cond } => self.make_condition(cond),
+            Change::DestroyCondition { cond } => self.destroy_condition(cond),
+            Change::EnterCondition {
+                cond,
+                thread,
+                mutex,
+            } => self.enter_condition(cond, thread, mutex),
+            Change::LeaveCondition { cond, thread } => self.leave_condition(cond, thread),
+            Change::AwaitNext { thread, wait } => self.await_next(thread, wait),
+            Change::GoOn { thread, reply } => self.go_on(thread, reply),
         }
     }
 }

@@ -1,4 +1,4 @@
-ghost use Rattle.std.specs.Prelude.{◌≡◌, ◌<◌, ◌++◌, [], ◌∷◌, true, false, Some, IfOk, length};
+ghost use Rattle.std.specs.Prelude.{◌≡◌, ◌<◌, ◌+◌, ◌++◌, [], ◌∷◌, true, false, Some, IfOk, length};
 ghost use Rattle.posix_model.specs.Reports.{nothing_told};
 ghost use Rattle.posix_model.specs.Start.{start_state};
 ghost use Rattle.kernel_state.specs.View.{view, made, pending_of, AreCurrent};
@@ -8,7 +8,7 @@ ghost use Rattle.posix_model.specs.Calls.{refused};
 ghost use Rattle.kernel_state.specs.Changing.{Can, change_by, AllCan};
 ghost use Rattle.posix_model.specs.Threads.{exists};
 ghost use Rattle.kernel_state.specs.Executing.{HasExecuted, delivery_by};
-ghost use Rattle.kernel_state.specs.Begun.{CanBegin, IsNoted, IsBegun, arguments_of};
+ghost use Rattle.kernel_state.specs.Begun.{CanBegin, IsNoted, IsBegun, NotesMore, arguments_of};
 ghost use Rattle.kernel_state.specs.Moves.{owed_by, told_by, is_nil, MakesFirst, IsStep};
 
 use crate::change::Change;
@@ -33,7 +33,7 @@ pub enum Stepped {
 #[derive(Drop)]
 pub struct Kernel<R: Ready + Drop> {
     pub(crate) tables: Tables<R>,
-    pub(crate) rest: ArrayVec<Change, 8>,
+    pub(crate) rest: ArrayVec<Change, 264>,
     pub(crate) tid: u32,
     pub(crate) head: Head,
     pub(crate) settings: Settings,
@@ -107,7 +107,7 @@ impl<R: Ready + Drop> Kernel<R> {
 
     /// Notes a small change that the move in progress still has to make, behind those noted before.
     fn note(&mut self, change: Change)
-        requires { length self.old.rest.items < 8 }
+        requires { length self.old.rest.items < 264 }
         ensures rest { self.new.rest.items ≡ self.old.rest.items ++ change ∷ [] }
         ensures others { self.new ≡ record self.old { rest = self.new.rest } }
     {
@@ -132,6 +132,15 @@ impl<R: Ready + Drop> Kernel<R> {
     {
         self.note(first);
         self.note(second);
+    }
+
+    /// Notes one small change more of a move, behind those that were noted before. A move has 264 at most.
+    pub fn note_more(&mut self, change: Change)
+        requires { length self.old.rest.items < 264 }
+        ensures noted { NotesMore R.order self.old self.new change }
+        ensures length { length self.new.rest.items ≡ length self.old.rest.items + 1 }
+    {
+        self.note(change);
     }
 
     /// Notes the answer of a refusal: an error, and nothing else changes.

@@ -3,8 +3,10 @@
 
 mod change;
 mod changes;
+mod conditions;
 mod kernel;
 mod life;
+mod mutexes;
 mod tables;
 #[cfg(test)]
 mod tests;

@@ -14,8 +14,10 @@ ghost use Rattle.kernel_state.specs.Executing.{HasExecuted, delivery_by};
 ghost use Rattle.kernel_state.specs.View.{view, kept_thread, registers_of, context_of, contexts_of, with_ready, main_row, pending_of, AreCurrent};
 
 use crate::life::{Life, Lives};
+use cond_table::Conds;
 use context_frames::{Frames, Saved};
 use elf_image::EntryPoint;
+use mutex_table::Mutexes;
 use posix_model::{Ending, Report};
 use ready_queues::Ready;
 use rv_exec::{BASE, Event, Memory, Regs, START_RETURN, exec};
@@ -59,6 +61,8 @@ impl Kept {
 pub struct Tables<R: Ready + Drop> {
     pub(crate) threads: Threads,
     pub(crate) ready: R,
+    pub(crate) mutexes: Mutexes,
+    pub(crate) conditions: Conds,
     pub(crate) lives: Lives,
     pub(crate) frames: Frames,
     pub(crate) regs: Regs,
@@ -86,12 +90,16 @@ impl<R: Ready + Drop> Tables<R> {
         let main = Tid::at(0);
         let base = first_priority();
         let frames = Frames::new(alloc)?;
+        let mutexes = Mutexes::new(alloc)?;
+        let conditions = Conds::new(alloc)?;
         let mut threads = Threads::new();
         let _number = threads.make(first_row());
         ready.append(main, base);
         Ok(Tables {
             threads,
             ready,
+            mutexes,
+            conditions,
             lives: Lives::new(),
             frames,
             regs: first_regs(&memory, entry),

@@ -18,6 +18,8 @@ returns-clause-view g c =
     (ap (λ (x : Tables _). lives_of x.lives) rest ∙ c.put-2.ensures)
     c.put_context.ensures.contexts
     (ap (λ (x : Tables _). g.R.Ready.order x.ready) rest)
+    (ap (λ (x : Tables _). x.mutexes) rest)
+    (ap (λ (x : Tables _). x.conditions) rest)
     (ap (λ (x : Tables _). x.fault) rest)
     (ap (λ (x : Tables _). x.memory) rest)
     (ap (λ (x : Tables _). x.over) rest)

@@ -11,13 +11,13 @@ use Rattle.kernel_state.proofs.tables.Tables.new.Goals as goal
 pub returns-clause-start : goal.returns-clause-start
 returns-clause-start g c =
     view_start g.R.Ready.order
-    (record { threads = c.make-number.new.self; ready = c.append.new.self; lives = c.new-2.result; frames = c.in_ok-frames.frames; regs = c.first_regs.result; placed = c.at-main.result; memory = c.args.memory; fault = None; over = None; report = c.nothing.result })
+    (record { threads = c.make-number.new.self; ready = c.append.new.self; mutexes = c.in_ok-mutexes.mutexes; conditions = c.in_ok-conditions.conditions; lives = c.new-4.result; frames = c.in_ok-frames.frames; regs = c.first_regs.result; placed = c.at-main.result; memory = c.args.memory; fault = None; over = None; report = c.nothing.result })
     c.args.memory c.args.entry.0
     (first_made (rows c.make-number.new.self) (rows c.new-threads.result) c.first_row.result c.first_row.result c.make-number.result c.new-threads.ensures c.first_row.ensures c.make-number.ensures.number c.make-number.ensures.after)
-    c.new-2.ensures
+    c.new-4.ensures
     (sym (in_place (λ u. context_of (saved_of c.in_ok-frames.frames u)) c.at-main.result 1 (registers_of c.first_regs.result) (sym c.at-main.ensures)) ∙ c.first_regs.ensures)
     (c.append.ensures.order ∙ (λ i. c.requires i ++ c.at-main.ensures i ∷ []))
-    refl refl refl
+    c.in_ok-mutexes.ensures c.in_ok-conditions.ensures refl refl refl
 
 pub returns-clause-current : goal.returns-clause-current
 returns-clause-current g c =

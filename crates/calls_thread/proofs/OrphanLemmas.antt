@@ -1,0 +1,160 @@
+-- The mutexes of a thread that ends become orphans, one after another from the least number on.
+use Rattle.std.proofs.Common.{◌≡◌, ◌∙◌, ap, sym, refl, subst, inl, inr, arith, ℕ, ◌+◌, ◌-◌, ◌<◌, ◌≤◌, Bool, true, false, find, List, length, is_some, Option, Some, None, IsSome, IfNone}
+use Rattle.std.specs.Prelude.{if◌then◌else◌}
+use Rattle.std.specs.List.{range_with_len}
+use Rattle.std.proofs.lemmas.Bool.{cases_lt}
+use Rattle.thread_base.specs.Holders.{is_held_by}
+use Rattle.thread_base.specs.Maps.{put}
+use Rattle.thread_base.specs.declared.mutex.Holder.TheVariants.{Orphan}
+use Rattle.thread_base.proofs.MapLemmas.{put_same, put_other}
+use Rattle.thread_base.proofs.SearchLemmas.{find_passes, find_member, find_lowest, range_in}
+use Rattle.posix_model.specs.State.{State, Mutex}
+use Rattle.posix_model.specs.Changes.{begun}
+use Rattle.posix_model.specs.Mutexes.{holder_in, holder_of, orphan_in, orphaned}
+use Rattle.kernel_state.specs.View.{view, made}
+use Rattle.kernel_state.specs.Changing.{Can, held_anew, HasNoMutex, owed, AllCan}
+use Rattle.kernel_state.specs.Begun.{CanBegin, HasNoted, NotesMore}
+use Rattle.kernel_state.specs.declared.change.Change.TheVariants.{Hold}
+use Rattle.kernel_state.specs.declared.kernel.Kernel.{Kernel}
+use Rattle.kernel_state.specs.declared.tables.Tables.{Tables}
+use Rattle.calls_thread.specs.Orphans.{with_orphans}
+
+-- a mutex that the thread does not have stays, and one that it has is an orphan
+orphan_free : (t : ℕ) (o : Option Mutex) → is_held_by (holder_in o) t ≡ false → orphan_in t o ≡ o
+orphan_free t None h = refl
+orphan_free t (Some mutex) h = ap (λ b. Some (if b then record mutex { holder = Orphan } else mutex)) h
+
+orphan_held : (t : ℕ) (o : Option Mutex) → is_held_by (holder_in o) t ≡ true → held_anew Orphan o ≡ orphan_in t o
+orphan_held t None h = absurd (let e : false ≡ true = h in cc)
+orphan_held t (Some mutex) h = ap (λ b. Some (if b then record mutex { holder = Orphan } else mutex)) (sym h)
+
+held_some : (t : ℕ) (o : Option Mutex) → is_held_by (holder_in o) t ≡ true → IsSome o
+held_some t None h = absurd (let e : false ≡ true = h in cc)
+held_some t (Some mutex) h = refl
+
+orphan_gone : (t : ℕ) (o : Option Mutex) → is_held_by (holder_in (orphan_in t o)) t ≡ false
+orphan_gone t None = refl
+orphan_gone t (Some mutex) = by (is_held_by mutex.holder t) refl
+  where
+    by : (b : Bool) → is_held_by mutex.holder t ≡ b → is_held_by (holder_in (Some (if b then record mutex { holder = Orphan } else mutex))) t ≡ false
+    by true h = refl
+    by false h = h
+
+-- then the thread has none, and its end changes no mutex more
+pub none_left : (s : State) (t : ℕ) → HasNoMutex (with_orphans s t) t
+none_left s t m = orphan_gone t (s.mutexes m)
+
+pub orphaned_twice : (t : ℕ) (mutexes : ℕ → Option Mutex) → orphaned t (orphaned t mutexes) ≡ orphaned t mutexes
+orphaned_twice t mutexes = λ i m. orphan_free t (orphan_in t (mutexes m)) (orphan_gone t (mutexes m)) i
+
+-- below a number all mutexes of the thread are orphans, and from it on all are as they were
+pub record AreBelow (s : State) (t from : ℕ) (mutexes : ℕ → Option Mutex) : Type 0 where
+  pub done : (m : ℕ) → m < from → mutexes m ≡ orphan_in t (s.mutexes m)
+  pub left : (m : ℕ) → from ≤ m → mutexes m ≡ s.mutexes m
+
+-- that the mutexes below a number are orphans was noted
+abbrev pub HasNotedBelow : {R : Type 0} → (R → List ℕ) → Kernel R → Kernel R → ℕ → ℕ → Type 0
+HasNotedBelow order k q t from =
+    (mutexes : ℕ → Option Mutex) × AreBelow (view order k.tables) t from mutexes × HasNoted order k q (begun (record (view order k.tables) { mutexes = mutexes }))
+    × (from ≤ 256) × (length q.rest.items ≤ from)
+
+module _ (s : State) (t from m : ℕ) (least : from ≤ 256) (found : find (λ k. is_held_by (holder_of s k) t) (range_with_len from (256 - from)) ≡ Some m) where
+  abbrev has : ℕ → Bool
+  has k = is_held_by (holder_of s k) t
+
+  pub owned_within : (from ≤ m) × (m < 256)
+  owned_within =
+      let range = range_in from (256 - from) m (find_member has (range_with_len from (256 - from)) m found) in
+      let high = range.1 in (range.0, omega (arith, high, least))
+
+  owned : has m ≡ true
+  owned = find_passes has (range_with_len from (256 - from)) m found
+
+  module _ (mutexes : ℕ → Option Mutex) (below : AreBelow s t from mutexes) where
+    abbrev next : ℕ → Option Mutex
+    next = put mutexes m (held_anew Orphan (mutexes m))
+
+    below_more : AreBelow s t (m + 1) next
+    below_more = record {
+      done = λ k low. elim (cases_lt k m) [
+        | inl lt ↦
+            put_other mutexes m (held_anew Orphan (mutexes m)) k (λ e. omega (arith, lt, e))
+            ∙ elim (cases_lt k from) [
+              | inl before ↦ below.done k before
+              | inr after ↦ below.left k after ∙ sym (orphan_free t (s.mutexes k) (find_lowest has from (256 - from) m k found after lt))
+            ]
+        | inr ge ↦
+            (let same : k ≡ m = omega (arith, ge, low) in
+            ap next same ∙ put_same mutexes m (held_anew Orphan (mutexes m)) ∙ ap (held_anew Orphan) (below.left m owned_within.0)
+            ∙ orphan_held t (s.mutexes m) owned ∙ ap (λ n. orphan_in t (s.mutexes n)) (sym same))
+      ];
+      left = λ k high.
+          (let at = owned_within.0 in
+          put_other mutexes m (held_anew Orphan (mutexes m)) k (λ e. omega (arith, e, high)) ∙ below.left k (omega (arith, high, at)));
+    }
+
+    can_orphan : Can (Hold m Orphan) (begun (record s { mutexes = mutexes }))
+    can_orphan = ap is_some (below.left m owned_within.0) ∙ held_some t (s.mutexes m) owned
+
+module _ {R : Type 0} (order : R → List ℕ) (k : Kernel R) (t : ℕ) where
+  pub noted_none : CanBegin order k t → HasNotedBelow order k k t 0
+  unfolding made
+  noted_none ready =
+      let none : length k.rest.items ≡ 0 = ap length ready.idle in (
+        (view order k.tables).mutexes,
+        record { done = λ m low. absurd (omega (arith, low)); left = λ m high. refl },
+        record {
+          owed = ap (owed (made order k.tables)) ready.idle ∙ (λ i. record { state = view order k.tables; report = ready.untold i });
+          can = subst (λ xs. AllCan (made order k.tables) xs) (sym ready.idle) tt;
+          others = refl;
+        },
+        omega arith,
+        omega (arith, none),
+      )
+
+  module _ (tables : Tables R) (q : Kernel R) (from : ℕ) (o : Option ℕ) (before : HasNotedBelow order k q t from) (same : tables ≡ q.tables) where
+    stays : tables ≡ k.tables
+    stays = same ∙ ap (λ (x : Kernel _). x.tables) before.2.others
+
+    module _ (m : ℕ) (least : o ≡ find (λ n. is_held_by (holder_of (view order tables) n) t) (range_with_len from (256 - from))) (is : o ≡ Some m) where
+      pub found_still : find (λ n. is_held_by (holder_of (view order k.tables) n) t) (range_with_len from (256 - from)) ≡ Some m
+      found_still = sym (least ∙ ap (λ (x : Tables _). find (λ n. is_held_by (holder_of (view order x) n) t) (range_with_len from (256 - from))) stays) ∙ is
+
+      pub within_still : (from ≤ m) × (m < 256)
+      within_still = owned_within (view order k.tables) t from m before.3 found_still
+
+    pub none_still : IfNone o ((m : ℕ) → from ≤ m → is_held_by (holder_of (view order tables) m) t ≡ false) → o ≡ None
+        → (m : ℕ) → from ≤ m → is_held_by (holder_of (view order k.tables) m) t ≡ false
+    none_still none is =
+        let left = subst (λ x. IfNone x ((m : ℕ) → from ≤ m → is_held_by (holder_of (view order tables) m) t ≡ false)) is none in
+        λ m high. ap (λ (x : Tables _). is_held_by (holder_of (view order x) m) t) (sym stays) ∙ left m high
+
+  -- one mutex more
+  pub noted_below : (q r : Kernel R) (from m : ℕ) → HasNotedBelow order k q t from
+      → find (λ n. is_held_by (holder_of (view order k.tables) n) t) (range_with_len from (256 - from)) ≡ Some m
+      → NotesMore order q r (Hold m Orphan) → length r.rest.items ≡ length q.rest.items + 1 → HasNotedBelow order k r t (m + 1)
+  noted_below q r from m before found more count =
+      let s = view order k.tables in
+      let range = owned_within s t from m before.3 found in
+      let noted = more k (begun (record s { mutexes = before.0 })) before.2 (can_orphan s t from m before.3 found before.0 before.1) in
+      let low = range.0 in
+      let high = range.1 in
+      let few = before.4 in (
+        put before.0 m (held_anew Orphan (before.0 m)),
+        below_more s t from m before.3 found before.0 before.1,
+        record { owed = noted.owed; can = noted.can; others = noted.others },
+        omega (arith, high),
+        omega (arith, low, few, count),
+      )
+
+  -- and then none is left
+  pub noted_all : (q : Kernel R) (from : ℕ) → HasNotedBelow order k q t from → ((m : ℕ) → from ≤ m → is_held_by (holder_of (view order k.tables) m) t ≡ false)
+      → HasNoted order k q (begun (with_orphans (view order k.tables) t))
+  noted_all q from before none =
+      let s = view order k.tables in
+      let at : (m : ℕ) → before.0 m ≡ orphan_in t (s.mutexes m) =
+      λ m. elim (cases_lt m from) [
+        | inl low ↦ before.1.done m low
+        | inr high ↦ before.1.left m high ∙ sym (orphan_free t (s.mutexes m) (none m high))
+      ] in
+      subst (λ (ms : ℕ → Option Mutex). HasNoted order k q (begun (record s { mutexes = ms }))) (λ i m. at m i) before.2
