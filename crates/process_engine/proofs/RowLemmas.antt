@@ -1,6 +1,6 @@
 -- What a move tells can be written, it has a main line, and nothing pends behind a move that ends the process.
 use Rattle.std.proofs.Common.{◌≡◌, ◌∙◌, ap, sym, refl, subst, inl, inr, ℕ, ◌-◌, ◌<◌, ◌≤◌, Bool, true, false, not, List, [], ◌∷◌, length, Option, Some, None, arith}
-use Rattle.std.specs.Prelude.{if◌then◌else◌, ◌==◌, ◌||◌, IsTrue, is_some, min}
+use Rattle.std.specs.Prelude.{if◌then◌else◌, ◌==◌, ◌||◌, IsTrue, is_some, min, nat_lt}
 use Rattle.std.proofs.lemmas.Bool.Decides.{nat_tests}
 use Rattle.std.proofs.Math.Nat.{min-le_left}
 use Rattle.thread_base.specs.declared.Errno.{Errno}
@@ -8,6 +8,7 @@ use Rattle.thread_base.specs.declared.Errno.TheVariants.{EPERM, EBADF, EFAULT, E
 use Rattle.thread_base.specs.declared.mutex.Holder.TheVariants.{Held}
 use Rattle.thread_base.specs.Holders.{is_held_by, count_of, is_free}
 use Rattle.thread_base.specs.Maps.{put}
+use Rattle.thread_base.specs.Orders.{without}
 use Rattle.thread_base.proofs.MapLemmas.{put_got}
 use Rattle.rv_exec.specs.Window.{is_inside, fits}
 use Rattle.rv_exec.specs.Meaning.{effect}
@@ -15,10 +16,16 @@ use Rattle.rv_exec.specs.declared.Event.{Event}
 use Rattle.rv_exec.specs.declared.Event.TheVariants.{Next, Ecall, Fault as FaultEvent, Return}
 use Rattle.rv_exec.specs.declared.Special.{Special}
 use Rattle.rv_exec.specs.declared.Special.TheVariants.{Handler, Cleanup, Start}
-use Rattle.posix_model.specs.State.{State, Mutex, Standing, Absent, Ready, Waits, Ended, Phase, Normal, Leaving, none_pending}
-use Rattle.posix_model.specs.Changes.{Made, begun}
+use Rattle.posix_model.specs.State.{State, Mutex, Condition, count_due, Standing, Absent, Ready, Waits, Ended, Phase, Normal, Leaving, none_pending}
+use Rattle.posix_model.specs.Changes.{Made, begun, go_on}
 use Rattle.posix_model.specs.Threads.{exists, free_number, some_live}
-use Rattle.posix_model.specs.Mutexes.{set_mutex, best_waiter, hand}
+use Rattle.posix_model.specs.Mutexes.{set_mutex, best_waiter, reply_due, give, hand, requeue, retake_of}
+use Rattle.posix_model.specs.Conditions.{set_condition, is_other, is_used, leave, wake_by, wake, wake_all, in_order, next_woken}
+use Rattle.posix_model.specs.ConditionCalls.{new_condition, cond_init, has_any, cond_destroy_of, cond_destroy, await_condition, wait_and_release, cond_wait_of, cond_wait, wake_one, cond_signal_of, cond_signal, cond_broadcast_of, cond_broadcast, condition_row}
+use Rattle.posix_model.specs.Scheduling.{eff}
+use Rattle.posix_model.specs.declared.RetakeReply.{RetakeReply}
+use Rattle.posix_model.specs.declared.RetakeReply.TheVariants.{Answer, Cancel}
+use Rattle.posix_model.specs.declared.Wait.TheVariants.{Join, Mutex as OfMutex, Cond, Reacquire}
 use Rattle.posix_model.specs.Replies.{Called, refused, refusing, values}
 use Rattle.posix_model.specs.MutexCalls.{new_mutex, cannot_init, mutex_init, destroy_of, mutex_destroy, is_checked, is_full, is_open_to, take, queue, lock_of, lock, trylock_of, trylock, released, unlock_of, unlock, mutex_row}
 use Rattle.posix_model.specs.Calls.{written, most_written, write, exit, cannot_start, created, create, exit_thread, is_taken, join_by, join, detached_by, detach, self_number, yield, table_row, call_row, call}
@@ -136,7 +143,7 @@ destroy_calm : (s : State) (t m : ℕ) (o : Option Mutex) → IsCalm s (destroy_
 destroy_calm s t m None = refused_calm s t EINVAL
 destroy_calm s t m (Some mutex) =
     let effect : Called = values (begun (set_mutex s m None)) t 0 0 in
-    refusing_calm s t ((not (is_free mutex.holder), EBUSY) ∷ []) effect (made_calm s effect refl refl)
+    refusing_calm s t ((not (is_free mutex.holder) || is_used s m, EBUSY) ∷ []) effect (made_calm s effect refl refl)
 
 lock_calm : (s : State) (t m : ℕ) (o : Option Mutex) → IsCalm s (lock_of s t m o)
 lock_calm s t m None = refused_calm s t EINVAL
@@ -151,17 +158,63 @@ trylock_calm s t m (Some mutex) =
     refusing_calm s t ((is_full t mutex, EAGAIN) ∷ (not (is_open_to t mutex), EBUSY) ∷ []) (take s t m mutex)
     (made_calm s (take s t m mutex) refl refl)
 
--- a mutex that is handed over
-hand_calm : (s : State) (t m : ℕ) (mutex : Mutex) (who : Option ℕ) → IsCalm s (values (hand (begun s) m mutex who) t 0 0)
-hand_calm s t m mutex None = made_calm s (values (hand (begun s) m mutex None) t 0 0) refl refl
-hand_calm s t m mutex (Some u) = record {
-  readable = silent_readable (values (hand (begun s) m mutex (Some u)) t 0 0).made.report s.memory nothing_silent;
-  pending = refl;
-}
+-- a move so far writes no byte, and what pends stays
+record IsStill (s : State) (g : Made) : Type 0 where
+  silent : g.report.out_len ≡ 0
+  pending : g.state.pending ≡ s.pending
+
+still_at_first : (s r : State) → r.pending ≡ s.pending → IsStill s (begun r)
+still_at_first s r pending = record { silent = nothing_silent; pending = pending }
+
+values_calm : (s : State) (t : ℕ) (g : Made) → IsStill s g → IsCalm s (values g t 0 0)
+values_calm s t g still = record { readable = silent_readable g.report g.state.memory still.silent; pending = still.pending }
+
+go_on_still : (s : State) (g : Made) (u : ℕ) (reply : RetakeReply) → IsStill s g → IsStill s (go_on g u reply)
+go_on_still s g u (Answer error) still = record { silent = still.silent; pending = still.pending }
+go_on_still s g u Cancel still = record { silent = still.silent; pending = still.pending }
+
+give_still : (s : State) (g : Made) (m : ℕ) (mutex : Mutex) (u count : ℕ) (reply : RetakeReply) → IsStill s g → IsStill s (give g m mutex u count reply)
+give_still s g m mutex u count reply still =
+    go_on_still s (record g { state = set_mutex g.state m (Some (record mutex { holder = Held u count })) }) u reply (record { silent = still.silent; pending = still.pending })
+
+hand_still : (s : State) (g : Made) (m : ℕ) (mutex : Mutex) (who : Option ℕ) → IsStill s g → IsStill s (hand g m mutex who)
+hand_still s g m mutex None still = record { silent = still.silent; pending = still.pending }
+hand_still s g m mutex (Some u) still =
+    give_still s g m (record mutex { waiters = without u mutex.waiters }) u (count_due (g.state.threads u).standing) (reply_due (g.state.threads u).standing) still
+
+retake_still : (s : State) (g : Made) (m : ℕ) (o : Option Mutex) (u count : ℕ) (reply : RetakeReply) → IsStill s g → IsStill s (retake_of g m o u count reply)
+retake_still s g m None u count reply still = still
+retake_still s g m (Some mutex) u count reply still = by (is_free mutex.holder)
+  where
+    by : (b : Bool) → IsStill s (if b then give g m mutex u count reply else requeue g m mutex u count reply)
+    by true = give_still s g m mutex u count reply still
+    by false = record { silent = still.silent; pending = still.pending }
+
+wake_still_by : (s : State) (g : Made) (u : ℕ) (reply : RetakeReply) (standing : Standing) → IsStill s g → IsStill s (wake_by g u reply standing)
+wake_still_by s g u reply Absent still = still
+wake_still_by s g u reply Ready still = still
+wake_still_by s g u reply (Waits (Join v)) still = still
+wake_still_by s g u reply (Waits (OfMutex m)) still = still
+wake_still_by s g u reply (Waits (Cond c m deadline count)) still =
+    retake_still s (leave g c u) m (g.state.mutexes m) u count reply (record { silent = still.silent; pending = still.pending })
+wake_still_by s g u reply (Waits (Reacquire m other count)) still = still
+wake_still_by s g u reply (Ended value) still = still
+
+wake_still : (s : State) (g : Made) (u : ℕ) → IsStill s g → IsStill s (wake g u (Answer 0))
+wake_still s g u still = wake_still_by s g u (Answer 0) (g.state.threads u).standing still
+
+wake_one_still : (s : State) (g : Made) (who : Option ℕ) → IsStill s g → IsStill s (wake_one g who)
+wake_one_still s g None still = still
+wake_one_still s g (Some u) still = wake_still s g u still
+
+wake_all_still : (s : State) (g : Made) (us : List ℕ) → IsStill s g → IsStill s (wake_all g us)
+wake_all_still s g [] still = still
+wake_all_still s g (u ∷ us) still = wake_all_still s (wake g u (Answer 0)) us (wake_still s g u still)
 
 released_calm : (s : State) (t m : ℕ) (mutex : Mutex) (b : Bool)
     → IsCalm s (values (if b then hand (begun s) m mutex (best_waiter s mutex) else begun (set_mutex s m (Some (record mutex { holder = Held t (count_of mutex.holder - 1) })))) t 0 0)
-released_calm s t m mutex true = hand_calm s t m mutex (best_waiter s mutex)
+released_calm s t m mutex true =
+    values_calm s t (hand (begun s) m mutex (best_waiter s mutex)) (hand_still s (begun s) m mutex (best_waiter s mutex) (still_at_first s s refl))
 released_calm s t m mutex false =
     made_calm s (values (begun (set_mutex s m (Some (record mutex { holder = Held t (count_of mutex.holder - 1) })))) t 0 0) refl refl
 
@@ -171,9 +224,62 @@ unlock_calm s t m (Some mutex) =
     refusing_calm s t ((not (is_held_by mutex.holder t), EPERM) ∷ []) (values (released s t m mutex) t 0 0)
     (released_calm s t m mutex (count_of mutex.holder == 1))
 
+cond_init_calm : (s : State) (t : ℕ) (c : Arguments) → IsCalm s (cond_init s t c)
+cond_init_calm s t c =
+    let effect : Called = values (begun (set_condition s c.a (Some new_condition))) t 0 0 in
+    refusing_calm s t ((not (nat_lt c.a 256), EINVAL) ∷ (is_some (s.conditions c.a), EBUSY) ∷ []) effect (made_calm s effect refl refl)
+
+cond_destroy_calm : (s : State) (t c : ℕ) (o : Option Condition) → IsCalm s (cond_destroy_of s t c o)
+cond_destroy_calm s t c None = refused_calm s t EINVAL
+cond_destroy_calm s t c (Some condition) =
+    let effect : Called = values (begun (set_condition s c None)) t 0 0 in
+    refusing_calm s t ((has_any condition.waiters, EBUSY) ∷ []) effect (made_calm s effect refl refl)
+
+cond_wait_calm : (s : State) (t c : ℕ) (condition : Option Condition) (m : ℕ) (mutex : Option Mutex) → IsCalm s (cond_wait_of s t c condition m mutex)
+cond_wait_calm s t c None m mutex = refused_calm s t EINVAL
+cond_wait_calm s t c (Some condition) m None = refused_calm s t EINVAL
+cond_wait_calm s t c (Some condition) m (Some mutex) =
+    let waiting : State = await_condition s t c condition m mutex in
+    let effect : Called = wait_and_release s t c condition m mutex in
+    let still = hand_still s (begun waiting) m mutex (best_waiter s mutex) (still_at_first s waiting refl) in
+    refusing_calm s t ((not (is_held_by mutex.holder t), EPERM) ∷ (is_other m condition.mutex, EINVAL) ∷ []) effect
+    (record { readable = silent_readable effect.made.report effect.made.state.memory still.silent; pending = still.pending })
+
+cond_signal_calm : (s : State) (t : ℕ) (o : Option Condition) → IsCalm s (cond_signal_of s t o)
+cond_signal_calm s t None = refused_calm s t EINVAL
+cond_signal_calm s t (Some condition) =
+    values_calm s t (wake_one (begun s) (next_woken s condition)) (wake_one_still s (begun s) (next_woken s condition) (still_at_first s s refl))
+
+cond_broadcast_calm : (s : State) (t : ℕ) (o : Option Condition) → IsCalm s (cond_broadcast_of s t o)
+cond_broadcast_calm s t None = refused_calm s t EINVAL
+cond_broadcast_calm s t (Some condition) =
+    let order = in_order (eff s) condition.waiters in
+    values_calm s t (wake_all (begun s) order) (wake_all_still s (begun s) order (still_at_first s s refl))
+
+-- the rows of conditions from one on
+abbrev from_broadcast : State → ℕ → ℕ → Arguments → Called
+from_broadcast s t number c = if number == 285 then cond_broadcast s t c else refused s t ENOSYS
+
+abbrev from_signal : State → ℕ → ℕ → Arguments → Called
+from_signal s t number c = if number == 284 then cond_signal s t c else from_broadcast s t number c
+
+abbrev from_wait : State → ℕ → ℕ → Arguments → Called
+from_wait s t number c = if number == 282 then cond_wait s t c else from_signal s t number c
+
+abbrev from_cond_destroy : State → ℕ → ℕ → Arguments → Called
+from_cond_destroy s t number c = if number == 281 then cond_destroy s t c else from_wait s t number c
+
+conditions_calm : (s : State) (t number : ℕ) (c : Arguments) → IsCalm s (condition_row s t number c)
+conditions_calm s t number c =
+    either s (number == 280) (cond_init s t c) (from_cond_destroy s t number c) (cond_init_calm s t c)
+    (either s (number == 281) (cond_destroy s t c) (from_wait s t number c) (cond_destroy_calm s t c.a (s.conditions c.a))
+    (either s (number == 282) (cond_wait s t c) (from_signal s t number c) (cond_wait_calm s t c.a (s.conditions c.a) c.b (s.mutexes c.b))
+    (either s (number == 284) (cond_signal s t c) (from_broadcast s t number c) (cond_signal_calm s t (s.conditions c.a))
+    (either s (number == 285) (cond_broadcast s t c) (refused s t ENOSYS) (cond_broadcast_calm s t (s.conditions c.a)) (refused_calm s t ENOSYS)))))
+
 -- the rows of mutexes from one on
 abbrev from_unlock : State → ℕ → ℕ → Arguments → Called
-from_unlock s t number c = if number == 278 then unlock s t c else refused s t ENOSYS
+from_unlock s t number c = if number == 278 then unlock s t c else condition_row s t number c
 
 abbrev from_trylock : State → ℕ → ℕ → Arguments → Called
 from_trylock s t number c = if number == 277 then trylock s t c else from_unlock s t number c
@@ -190,7 +296,7 @@ mutexes_calm s t number c =
     (either s (number == 275) (mutex_destroy s t c) (from_lock s t number c) (destroy_calm s t c.a (s.mutexes c.a))
     (either s (number == 276) (lock s t c) (from_trylock s t number c) (lock_calm s t c.a (s.mutexes c.a))
     (either s (number == 277) (trylock s t c) (from_unlock s t number c) (trylock_calm s t c.a (s.mutexes c.a))
-    (either s (number == 278) (unlock s t c) (refused s t ENOSYS) (unlock_calm s t c.a (s.mutexes c.a)) (refused_calm s t ENOSYS)))))
+    (either s (number == 278) (unlock s t c) (condition_row s t number c) (unlock_calm s t c.a (s.mutexes c.a)) (conditions_calm s t number c)))))
 
 -- the table from a row on
 abbrev from_yield : State → ℕ → ℕ → Arguments → Called

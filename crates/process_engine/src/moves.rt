@@ -5,6 +5,7 @@ ghost use Rattle.posix_model.specs.Instructions.{instruction};
 ghost use Rattle.kernel_state.specs.View.{view};
 ghost use Rattle.kernel_state.specs.Begun.{CanBegin, IsBegun, arguments_of};
 ghost use Rattle.kernel_state.specs.Executing.{HasExecuted};
+ghost use Rattle.calls_sync.specs.Numbers.{is_mutex_call, is_condition_call};
 ghost use Rattle.process_engine.specs.Program.{built};
 
 use kernel_state::Kernel;
@@ -18,10 +19,45 @@ const WRITE: u32 = 64;
 /// The number of the call that ends the process.
 const EXIT: u32 = 93;
 
-/// The numbers of the first and the last call of threads.
+/// The number of the first call of threads.
 const CREATE: u32 = 256;
 
+/// The number of the last call of threads.
 const YIELD: u32 = 261;
+
+/// The number of the first call of mutexes.
+const MUTEX_INIT: u32 = 274;
+
+/// The number of the last call of mutexes.
+const UNLOCK: u32 = 278;
+
+/// The number of the call that makes a condition; the next one takes it away.
+const COND_INIT: u32 = 280;
+
+/// The number of the call that waits for a condition.
+const COND_WAIT: u32 = 282;
+
+/// The number of the call that wakes one waiter.
+const COND_SIGNAL: u32 = 284;
+
+/// The number of the call that wakes all waiters.
+const COND_BROADCAST: u32 = 285;
+
+/// Whether a call is one of mutexes.
+fn is_of_mutexes(number: u32) -> bool
+    ensures { result ≡ is_mutex_call number }
+{
+    MUTEX_INIT <= number && number <= UNLOCK
+}
+
+/// Whether a call is one of conditions.
+fn is_of_conditions(number: u32) -> bool
+    ensures { result ≡ is_condition_call number }
+{
+    (COND_INIT <= number && number <= COND_WAIT)
+        || number == COND_SIGNAL
+        || number == COND_BROADCAST
+}
 
 /// Begins the call of a number, of a thread that is ready.
 fn begin_number<R: Ready + Drop>(k: &mut Kernel<R>, t: Tid, number: u32, args: [u32; 4])
@@ -45,6 +81,8 @@ fn begin_known<R: Ready + Drop>(k: &mut Kernel<R>, t: Tid, call: CallNo, args: [
         calls_signal::begin(k, t, call, args);
     } else if number == EXIT || (CREATE <= number && number <= YIELD) {
         calls_thread::begin(k, t, call, args);
+    } else if is_of_mutexes(number) || is_of_conditions(number) {
+        calls_sync::begin(k, t, call, args);
     } else {
         calls_thread::begin_unknown(k, t, number, args);
     }

@@ -1,4 +1,4 @@
-//! What the tests replay: cases with whatever fails in them, and programs of a few items.
+//! What the tests replay: cases with whatever fails in them.
 
 use crate::{Status, replay};
 use replay_io::{MemFiles, MemSink, Words};
@@ -6,7 +6,6 @@ use std::alloc::Global;
 use std::process::Abort;
 use std::str;
 use std::test::Fail;
-use workload_gen::{sheet, sys_words};
 
 /// The journal without entries.
 pub const EMPTY: &[u8] = b"fsu-journal 1\n";
@@ -59,63 +58,5 @@ pub fn check(rt: &impl Abort, alloc: Global, case: &Case<'_>) -> Result<(), Fail
     assert_eq!(rt; status, case.status);
     assert_eq!(rt; str::from_utf8(out.bytes()), str::from_utf8(case.out));
     assert_eq!(rt; err.bytes(), case.err);
-    Ok(())
-}
-
-/// An item of a sheet program.
-#[derive(Clone, Copy)]
-pub enum Item {
-    /// A call: its number, and a0 to a3.
-    Sys(u32, [u32; 4]),
-    /// A return to the address in ra.
-    Ret,
-    /// A label: the next item stands at this address.
-    At(u32),
-}
-
-/// The call self.
-pub const SELF: Item = Item::Sys(260, [0, 0, 0, 0]);
-
-/// The call yield.
-pub const YIELD: Item = Item::Sys(261, [0, 0, 0, 0]);
-
-/// The exit of the process with 0.
-pub const END: Item = Item::Sys(93, [0, 0, 0, 0]);
-
-/// A row: a program, item by item, and the text of its run under the journal of the header alone.
-#[derive(Clone, Copy)]
-pub struct Row<'a> {
-    pub items: &'a [Item],
-    pub text: &'a [u8],
-}
-
-/// The sheet of a program; each label has to stand where it says.
-fn assembled(rt: &impl Abort, alloc: Global, items: &[Item]) -> Result<Vec<u8>, Fail> {
-    let mut code = Vec::new(alloc);
-    for item in items {
-        match item {
-            Item::Sys(number, args) => code.extend_from_slice(&sys_words(*number, *args))?,
-            Item::Ret => code.push(0x0000_8067)?,
-            Item::At(address) => {
-                let here = code.len().saturating_mul(4).saturating_add(65_620);
-                assert_eq!(rt; here, *address as usize);
-            }
-        }
-    }
-    assert!(rt; code.len() <= 10_000);
-    Ok(sheet(alloc, &code)?)
-}
-
-/// Replays a row.
-pub fn check_row(rt: &impl Abort, alloc: Global, row: &Row<'_>) -> Result<(), Fail> {
-    let image = assembled(rt, alloc, row.items)?;
-    check(rt, alloc, &given(&image, EMPTY, Status::Ran, row.text, b""))
-}
-
-/// Replays rows.
-pub fn check_rows(rt: &impl Abort, alloc: Global, rows: &[Row<'_>]) -> Result<(), Fail> {
-    for row in rows {
-        check_row(rt, alloc, row)?;
-    }
     Ok(())
 }

@@ -14,5 +14,3 @@ pub use top::replay;
 mod cases;
 #[cfg(test)]
 mod tests;
-#[cfg(test)]
-mod thread_tests;

@@ -1,5 +1,5 @@
 use crate::Status;
-use crate::cases::{Case, EMPTY, Item, Row, check, check_row, given};
+use crate::cases::{Case, EMPTY, check, given};
 use std::alloc::Global;
 use std::test::Fail;
 
@@ -198,49 +198,6 @@ fn endings(rt: HostRuntime) -> Result<(), Fail> {
         alloc,
         &given(&endless, EMPTY, Status::Ran, b"run 1\nend budget\n", b""),
     )
-}
-
-#[test]
-fn rows_of_sheets(rt: HostRuntime) -> Result<(), Fail> {
-    let alloc = rt.alloc();
-    // empty writes, refusals in their order, numbers without a call, an exit of more than a byte
-    let calls = Row {
-        items: &[
-            Item::At(65_620),
-            Item::Sys(64, [1, 131_072, 0, 0]),
-            Item::At(65_664),
-            Item::Sys(64, [1, 4, 1, 0]),
-            Item::Sys(64, [7, 131_072, 1, 0]),
-            Item::Sys(64, [7, 4, 1, 0]),
-            Item::Sys(64, [2, 131_072, 3, 0]),
-            Item::Sys(17, [0, 0, 0, 0]),
-            Item::Sys(300, [5, 6, 7, 8]),
-            Item::Sys(93, [258, 0, 0, 0]),
-        ],
-        text: b"run 1\n\
-call 1 64 1 131072 0 0 = 0 0\n\
-call 1 64 1 4 1 0 = 14 0\n\
-call 1 64 7 131072 1 0 = 9 0\n\
-call 1 64 7 4 1 0 = 9 0\n\
-call 1 64 2 131072 3 0 = 0 3\n\
-out 1 2 000000\n\
-call 1 17 0 0 0 0 = 38 0\n\
-call 1 300 5 6 7 8 = 38 0\n\
-call 1 93 258 0 0 0 = end\n\
-end exit 2\n",
-    };
-    check_row(&rt, alloc, &calls)?;
-    // a return from the first routine: the value is the 0 that the call left in a0
-    let returned = Row {
-        items: &[Item::Sys(260, [0, 0, 0, 0]), Item::Ret],
-        text: b"run 1\n\
-call 1 260 0 0 0 0 = 0 1\n\
-ret 1 start\n\
-ret 1 cleanup\n\
-gone 1 0\n\
-end exit 0\n",
-    };
-    check_row(&rt, alloc, &returned)
 }
 
 #[test]

@@ -1,7 +1,7 @@
 //! Programs whose threads are joined and detached.
 
-use crate::cases::Item::{At, Sys};
-use crate::cases::{END, Row, YIELD, check_rows};
+use crate::program::Item::{At, Sys};
+use crate::program::{END, Row, YIELD, first_other};
 use std::test::Fail;
 
 /// Joins, and the numbers that they free.
@@ -415,6 +415,7 @@ end exit 4\n",
 #[test]
 fn joins_and_detaches(rt: HostRuntime) -> Result<(), Fail> {
     let alloc = rt.alloc();
-    check_rows(&rt, alloc, JOINS)?;
-    check_rows(&rt, alloc, DETACHES)
+    assert_eq!(rt; first_other(alloc, JOINS)?, None);
+    assert_eq!(rt; first_other(alloc, DETACHES)?, None);
+    Ok(())
 }

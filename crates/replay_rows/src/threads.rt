@@ -2,10 +2,8 @@
 //! 93 exit of the process, 256 create, 257 exit of the thread, 258 join, 259 detach, 260 self, 261 yield.
 //! Attributes are 65536 (detached), and 131072 (they tell the scheduling) + 256 * policy + priority.
 
-mod joins;
-
-use crate::cases::Item::{At, Ret, Sys};
-use crate::cases::{END, Item, Row, SELF, YIELD, check_row, check_rows};
+use crate::program::Item::{At, Ret, Sys};
+use crate::program::{END, Item, Row, SELF, YIELD, first_other};
 use std::alloc::Global;
 use std::test::Fail;
 
@@ -612,20 +610,23 @@ end killed 11\n",
 #[test]
 fn turns_and_priorities(rt: HostRuntime) -> Result<(), Fail> {
     let alloc = rt.alloc();
-    check_rows(&rt, alloc, TURNS)?;
-    check_rows(&rt, alloc, PRIORITIES)
+    assert_eq!(rt; first_other(alloc, TURNS)?, None);
+    assert_eq!(rt; first_other(alloc, PRIORITIES)?, None);
+    Ok(())
 }
 
 #[test]
 fn ends_and_faults(rt: HostRuntime) -> Result<(), Fail> {
     let alloc = rt.alloc();
-    check_rows(&rt, alloc, ENDS)?;
-    check_rows(&rt, alloc, FAULTS)
+    assert_eq!(rt; first_other(alloc, ENDS)?, None);
+    assert_eq!(rt; first_other(alloc, FAULTS)?, None);
+    Ok(())
 }
 
 #[test]
 fn creates(rt: HostRuntime) -> Result<(), Fail> {
-    check_rows(&rt, rt.alloc(), CREATES)
+    assert_eq!(rt; first_other(rt.alloc(), CREATES)?, None);
+    Ok(())
 }
 
 /// A program that makes the threads 2 to `last` of its own priority, and its text. Each would return its number.
@@ -664,7 +665,8 @@ end exit 0\n",
         items: &items,
         text: &text,
     };
-    check_row(&rt, alloc, &row)
+    assert_eq!(rt; first_other(alloc, &[row])?, None);
+    Ok(())
 }
 
 #[test]
@@ -689,7 +691,8 @@ end exit 0\n",
         items: &items,
         text: &text,
     };
-    check_row(&rt, alloc, &row)
+    assert_eq!(rt; first_other(alloc, &[row])?, None);
+    Ok(())
 }
 
 #[test]
@@ -725,5 +728,6 @@ end exit 0\n",
         items: &items,
         text: &text,
     };
-    check_row(&rt, alloc, &row)
+    assert_eq!(rt; first_other(alloc, &[row])?, None);
+    Ok(())
 }

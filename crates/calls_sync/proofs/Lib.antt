@@ -1,0 +1,5 @@
+pub mod NotingLemmas
+pub mod MutexLemmas
+pub mod HandLemmas
+pub mod WakeLemmas
+pub mod WaitLemmas

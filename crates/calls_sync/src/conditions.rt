@@ -1,0 +1,230 @@
+ghost use Rattle.std.specs.Prelude.{◌≡◌, ◌≤◌, true, false, length, Some, is_some};
+ghost use Rattle.thread_base.specs.Holders.{count_of};
+ghost use Rattle.thread_base.specs.Orders.{is_in};
+ghost use Rattle.posix_model.specs.State.{Mutex, Condition};
+ghost use Rattle.posix_model.specs.Changes.{begun};
+ghost use Rattle.posix_model.specs.Conditions.{cond_mutex, cond_waiters, in_order, is_other, next_woken, wake, wake_all};
+ghost use Rattle.posix_model.specs.ConditionCalls as rows;
+ghost use Rattle.posix_model.specs.Mutexes.{waiters_of};
+ghost use Rattle.posix_model.specs.Replies.{values};
+ghost use Rattle.posix_model.specs.Scheduling.{eff};
+ghost use Rattle.posix_model.specs.Good.{IsGood};
+ghost use Rattle.posix_model.specs.Threads.{exists};
+ghost use Rattle.posix_model.specs.declared.RetakeReply.TheVariants.{Answer};
+ghost use Rattle.kernel_state.specs.View.{view, seen};
+ghost use Rattle.kernel_state.specs.Begun.{CanBegin, HasNoted, IsNoted};
+
+use crate::hands::{hand_over, is_free_mutex, wake};
+use crate::mutexes::answer;
+use kernel_state::{Change, Kernel};
+use mutex_table::Look;
+use posix_model::{Arguments, Reply, Wait};
+use ready_queues::Ready;
+use thread_base::{Errno, Tid};
+
+/// Makes a condition, by POSIX.1 pthread_cond_init.
+pub(crate) fn cond_init<R: Ready + Drop>(k: &mut Kernel<R>, t: Tid, c: Arguments) -> Reply
+    requires { CanBegin R.order k.old t }
+    ensures noted { IsNoted R.order k.old k.new (rows.cond_init (view R.order k.old.tables) t c).made }
+    ensures reply { result ≡ (rows.cond_init (view R.order k.old.tables) t c).reply }
+{
+    if c.a >= 256 {
+        return k.refuse(t, Errno::EINVAL);
+    }
+    if k.tables().has_condition(c.a) {
+        return k.refuse(t, Errno::EBUSY);
+    }
+    k.note_two(t, Change::MakeCondition { cond: c.a }, answer(t));
+    Reply::Values(0, 0)
+}
+
+/// Takes a condition away for which nobody waits, by POSIX.1 pthread_cond_destroy.
+pub(crate) fn cond_destroy<R: Ready + Drop>(k: &mut Kernel<R>, t: Tid, c: Arguments) -> Reply
+    requires { CanBegin R.order k.old t }
+    ensures noted { IsNoted R.order k.old k.new (rows.cond_destroy (view R.order k.old.tables) t c).made }
+    ensures reply { result ≡ (rows.cond_destroy (view R.order k.old.tables) t c).reply }
+{
+    if !k.tables().has_condition(c.a) {
+        return k.refuse(t, Errno::EINVAL);
+    }
+    if k.tables().condition_mutex(c.a).is_some() {
+        return k.refuse(t, Errno::EBUSY);
+    }
+    k.note_two(t, Change::DestroyCondition { cond: c.a }, answer(t));
+    Reply::Values(0, 0)
+}
+
+/// Waits for a condition with a mutex, which is released, by POSIX.1 pthread_cond_wait.
+pub(crate) fn cond_wait<R: Ready + Drop>(k: &mut Kernel<R>, t: Tid, c: Arguments) -> Reply
+    requires { CanBegin R.order k.old t }
+    ensures noted { IsNoted R.order k.old k.new (rows.cond_wait (view R.order k.old.tables) t c).made }
+    ensures reply { result ≡ (rows.cond_wait (view R.order k.old.tables) t c).reply }
+{
+    if !k.tables().has_condition(c.a) {
+        return k.refuse(t, Errno::EINVAL);
+    }
+    match k.tables().mutex(c.b) {
+        None => k.refuse(t, Errno::EINVAL),
+        Some(look) => wait_with(k, t, c.a, c.b, look),
+    }
+}
+
+/// Whether there is a mutex, and it is another.
+fn is_other(bound: Option<u32>, m: u32) -> bool
+    ensures { result ≡ is_other m bound }
+{
+    match bound {
+        None => false,
+        Some(k) => k != m,
+    }
+}
+
+/// Waits for a condition with a mutex that is there.
+fn wait_with<R: Ready + Drop>(k: &mut Kernel<R>, t: Tid, c: u32, m: u32, look: Look) -> Reply
+    requires ready { CanBegin R.order k.old t }
+    requires exists { is_some ((view R.order k.old.tables).conditions c) ≡ true }
+    requires found { (view R.order k.old.tables).mutexes m ≡ Some (seen look (waiters_of (view R.order k.old.tables) m)) }
+    ensures noted { (condition : Condition) → (view R.order k.old.tables).conditions c ≡ Some condition
+        → IsNoted R.order k.old k.new (rows.cond_wait_of (view R.order k.old.tables) t c (Some condition) m (Some (seen look (waiters_of (view R.order k.old.tables) m)))).made }
+    ensures reply { (condition : Condition) → (view R.order k.old.tables).conditions c ≡ Some condition
+        → result ≡ (rows.cond_wait_of (view R.order k.old.tables) t c (Some condition) m (Some (seen look (waiters_of (view R.order k.old.tables) m)))).reply }
+{
+    if !look.holder.is_held_by(t) {
+        return k.refuse(t, Errno::EPERM);
+    }
+    if is_other(k.tables().condition_mutex(c), m) {
+        return k.refuse(t, Errno::EINVAL);
+    }
+    wait_and_release(k, t, c, m, look.holder.count());
+    Reply::Block
+}
+
+/// Notes that the caller waits for a condition, behind the others, and that its mutex is handed over, which it had
+/// so often.
+fn wait_and_release<R: Ready + Drop>(k: &mut Kernel<R>, t: Tid, c: u32, m: u32, count: u32)
+    requires ready { CanBegin R.order k.old t }
+    requires exists { is_some ((view R.order k.old.tables).conditions c) ≡ true }
+    requires there { is_some ((view R.order k.old.tables).mutexes m) ≡ true }
+    requires same { is_other m (cond_mutex ((view R.order k.old.tables).conditions c)) ≡ false }
+    ensures { (condition : Condition) (mutex : Mutex) → (view R.order k.old.tables).conditions c ≡ Some condition
+        → (view R.order k.old.tables).mutexes m ≡ Some mutex → count ≡ count_of mutex.holder
+        → IsNoted R.order k.old k.new (rows.wait_and_release (view R.order k.old.tables) t c condition m mutex).made }
+{
+    k.note_more(Change::EnterCondition {
+        cond: c,
+        thread: t,
+        mutex: m,
+    });
+    k.note_more(Change::Await {
+        thread: t,
+        wait: Wait::Cond {
+            cond: c,
+            mutex: m,
+            deadline: None,
+            count,
+        },
+    });
+    hand_over(k, m);
+}
+
+/// Wakes the best waiter of a condition, if there is one, by POSIX.1 pthread_cond_signal.
+pub(crate) fn cond_signal<R: Ready + Drop>(k: &mut Kernel<R>, t: Tid, c: Arguments) -> Reply
+    requires { CanBegin R.order k.old t }
+    ensures noted { IsNoted R.order k.old k.new (rows.cond_signal (view R.order k.old.tables) t c).made }
+    ensures reply { result ≡ (rows.cond_signal (view R.order k.old.tables) t c).reply }
+{
+    if !k.tables().has_condition(c.a) {
+        return k.refuse(t, Errno::EINVAL);
+    }
+    signal(k, t, c.a);
+    Reply::Values(0, 0)
+}
+
+/// Notes that the best waiter of a condition is woken, if there is one, and that the caller is answered.
+fn signal<R: Ready + Drop>(k: &mut Kernel<R>, t: Tid, c: u32)
+    requires ready { CanBegin R.order k.old t }
+    requires exists { is_some ((view R.order k.old.tables).conditions c) ≡ true }
+    ensures { (condition : Condition) → (view R.order k.old.tables).conditions c ≡ Some condition
+        → IsNoted R.order k.old k.new (values (rows.wake_one (begun (view R.order k.old.tables)) (next_woken (view R.order k.old.tables) condition)) t 0 0).made }
+{
+    match k.tables().next_woken(c) {
+        None => k.note_one(t, answer(t)),
+        Some(u) => wake_best(k, t, c, u),
+    }
+}
+
+/// Notes that a waiter of a condition is woken, and that the caller is answered.
+fn wake_best<R: Ready + Drop>(k: &mut Kernel<R>, t: Tid, c: u32, u: Tid)
+    requires ready { CanBegin R.order k.old t }
+    requires waits { is_in u (cond_waiters ((view R.order k.old.tables).conditions c)) ≡ true }
+    ensures { IsNoted R.order k.old k.new (values (wake (begun (view R.order k.old.tables)) u (Answer 0)) t 0 0).made }
+{
+    match k.tables().condition_mutex(c) {
+        None => unreachable!(),
+        Some(m) => {
+            let free = is_free_mutex(k, m);
+            wake(k, c, m, u, free);
+            k.note_more(answer(t));
+        }
+    }
+}
+
+/// Wakes all waiters of a condition, by POSIX.1 pthread_cond_broadcast.
+pub(crate) fn cond_broadcast<R: Ready + Drop>(k: &mut Kernel<R>, t: Tid, c: Arguments) -> Reply
+    requires { CanBegin R.order k.old t }
+    ensures noted { IsNoted R.order k.old k.new (rows.cond_broadcast (view R.order k.old.tables) t c).made }
+    ensures reply { result ≡ (rows.cond_broadcast (view R.order k.old.tables) t c).reply }
+{
+    if !k.tables().has_condition(c.a) {
+        return k.refuse(t, Errno::EINVAL);
+    }
+    broadcast(k, t, c.a);
+    Reply::Values(0, 0)
+}
+
+/// Notes that all waiters of a condition are woken, those of greater priority first, and that the caller is answered.
+fn broadcast<R: Ready + Drop>(k: &mut Kernel<R>, t: Tid, c: u32)
+    requires ready { CanBegin R.order k.old t }
+    requires exists { is_some ((view R.order k.old.tables).conditions c) ≡ true }
+    ensures { (condition : Condition) → (view R.order k.old.tables).conditions c ≡ Some condition
+        → IsNoted R.order k.old k.new (values (wake_all (begun (view R.order k.old.tables)) (in_order (eff (view R.order k.old.tables)) condition.waiters)) t 0 0).made }
+{
+    match k.tables().condition_mutex(c) {
+        None => k.note_one(t, answer(t)),
+        Some(m) => {
+            let wake_order = k.tables().wake_order(c);
+            wake_each(k, t, c, m, &wake_order);
+            k.note_more(answer(t));
+        }
+    }
+}
+
+/// The thread of the number of a waiter of a condition.
+fn cond_waiter<R: Ready + Drop>(k: &Kernel<R>, c: u32, number: u32) -> Tid
+    requires good { IsGood (view R.order k.now.tables) }
+    requires waits { is_in number (cond_waiters ((view R.order k.now.tables).conditions c)) ≡ true }
+    ensures number { result ≡ number }
+    ensures there { exists (view R.order k.now.tables) result ≡ true }
+{
+    match k.tables().thread(number) {
+        Some(u) => u,
+        None => unreachable!(),
+    }
+}
+
+/// Notes that all waiters of a condition are woken in this order: the first gets the mutex where it is free, and the
+/// others wait for it. Each takes three small changes.
+fn wake_each<R: Ready + Drop>(k: &mut Kernel<R>, t: Tid, c: u32, m: u32, wake_order: &[u32])
+    requires ready { CanBegin R.order k.old t }
+    requires all { wake_order.now ≡ in_order (eff (view R.order k.old.tables)) (cond_waiters ((view R.order k.old.tables).conditions c)) }
+    requires bound { cond_mutex ((view R.order k.old.tables).conditions c) ≡ Some m }
+    ensures noted { HasNoted R.order k.old k.new (wake_all (begun (view R.order k.old.tables)) wake_order.now) }
+    ensures length { length k.new.rest.items ≤ 192 }
+{
+    let mut free = is_free_mutex(k, m);
+    for number in wake_order {
+        let u = cond_waiter(k, c, *number);
+        wake(k, c, m, u, free);
+        free = false;
+    }
+}

@@ -1,0 +1,316 @@
+ghost use Rattle.std.specs.Prelude.{◌≡◌, ◌<◌, ◌==◌, ◌&&◌, ◌||◌, true, Some, IsSome, IsNone};
+ghost use Rattle.thread_base.specs.Holders.{is_held_by, is_free, count_of};
+ghost use Rattle.posix_model.specs.State.{Mutex};
+ghost use Rattle.posix_model.specs.Changes.{begun};
+ghost use Rattle.posix_model.specs.Mutexes.{holder_of, waiters_of, most_locks, set_mutex, hand, best_waiter};
+ghost use Rattle.posix_model.specs.MutexCalls as rows;
+ghost use Rattle.posix_model.specs.MutexCalls.{cannot_init, kind_by, checks, counts};
+ghost use Rattle.posix_model.specs.Replies.{values};
+ghost use Rattle.kernel_state.specs.View.{view, seen};
+ghost use Rattle.kernel_state.specs.Changing.{free_mutex};
+ghost use Rattle.kernel_state.specs.Begun.{CanBegin, IsNoted};
+
+use crate::hands::hand_over;
+use kernel_state::{Change, Kernel};
+use mutex_table::Look;
+use posix_model::{Arguments, Reply, Wait};
+use ready_queues::Ready;
+use thread_base::{Errno, Holder, Kind, Protocol, Tid};
+
+/// The most that one thread locks a mutex.
+const MOST_LOCKS: u32 = 65_535;
+
+/// Every bit of the attributes of a mutex that says nothing, or asks for a protocol that is not built.
+const UNUSED: u32 = 0xffff_fffc;
+
+/// Whether no mutex can be made with a number or attributes.
+fn cannot_init(c: Arguments) -> bool
+    ensures { result ≡ cannot_init c }
+{
+    c.a >= 256 || c.b & UNUSED != 0 || c.b % 4 == 3
+}
+
+/// The kind of a new mutex by its attributes.
+fn kind_by(word: u32) -> Kind
+    ensures { result ≡ kind_by word }
+{
+    match word % 4 {
+        0 => Kind::Normal,
+        1 => Kind::ErrorCheck,
+        _ => Kind::Recursive,
+    }
+}
+
+/// Whether a thread has a mutex of the kind that answers an error where its owner locks it again.
+fn is_checked(look: &Look, t: Tid) -> bool
+    ensures { result ≡ (checks look.now.kind && is_held_by look.now.holder t) }
+{
+    matches!(look.kind, Kind::ErrorCheck) && look.holder.is_held_by(t)
+}
+
+/// Whether a thread has a mutex of the kind that counts where its owner locks it again.
+fn is_counted(look: &Look, t: Tid) -> bool
+    ensures { result ≡ (counts look.now.kind && is_held_by look.now.holder t) }
+{
+    matches!(look.kind, Kind::Recursive) && look.holder.is_held_by(t)
+}
+
+/// Whether a thread has a mutex that counts, and it cannot count further.
+fn is_full(look: &Look, t: Tid) -> bool
+    ensures { result ≡ (counts look.now.kind && is_held_by look.now.holder t && count_of look.now.holder == most_locks) }
+{
+    is_counted(look, t) && look.holder.count() == MOST_LOCKS
+}
+
+/// Whether a thread has a mutex without a wait where it locks it.
+fn is_open(look: &Look, t: Tid) -> bool
+    ensures { result ≡ (is_free look.now.holder || counts look.now.kind && is_held_by look.now.holder t) }
+{
+    look.holder.is_free() || is_counted(look, t)
+}
+
+/// The answer of a call that did what it was asked for and has no value.
+pub(crate) fn answer(t: Tid) -> Change
+    ensures { result ≡ Change.Reply t 0 0 }
+{
+    Change::Reply {
+        thread: t,
+        error: 0,
+        value: 0,
+    }
+}
+
+/// Notes that a mutex has another holder, and that the caller is answered.
+fn hold<R: Ready + Drop>(k: &mut Kernel<R>, t: Tid, m: u32, holder: Holder)
+    requires ready { CanBegin R.order k.old t }
+    requires exists { IsSome ((view R.order k.old.tables).mutexes m) }
+    ensures { (mutex : Mutex) → (view R.order k.old.tables).mutexes m ≡ Some mutex
+        → IsNoted R.order k.old k.new (values (begun (set_mutex (view R.order k.old.tables) m (Some (record mutex { holder = holder })))) t 0 0).made }
+{
+    k.note_two(t, Change::Hold { mutex: m, holder }, answer(t));
+}
+
+/// Notes that the caller has locked a mutex once more that it had so often.
+fn take<R: Ready + Drop>(k: &mut Kernel<R>, t: Tid, m: u32, count: u32)
+    requires ready { CanBegin R.order k.old t }
+    requires exists { IsSome ((view R.order k.old.tables).mutexes m) }
+    requires count { count ≡ count_of (holder_of (view R.order k.old.tables) m) }
+    ensures { (mutex : Mutex) → (view R.order k.old.tables).mutexes m ≡ Some mutex
+        → IsNoted R.order k.old k.new (rows.take (view R.order k.old.tables) t m mutex).made }
+{
+    hold(
+        k,
+        t,
+        m,
+        Holder::Held {
+            by: t,
+            count: count + 1,
+        },
+    );
+}
+
+/// Notes that the caller waits for a mutex, behind the others.
+fn queue<R: Ready + Drop>(k: &mut Kernel<R>, t: Tid, m: u32)
+    requires ready { CanBegin R.order k.old t }
+    requires exists { IsSome ((view R.order k.old.tables).mutexes m) }
+    ensures { (mutex : Mutex) → (view R.order k.old.tables).mutexes m ≡ Some mutex
+        → IsNoted R.order k.old k.new (rows.queue (view R.order k.old.tables) t m mutex).made }
+{
+    k.note_two(
+        t,
+        Change::AddMutexWaiter {
+            mutex: m,
+            thread: t,
+        },
+        Change::Await {
+            thread: t,
+            wait: Wait::Mutex(m),
+        },
+    );
+}
+
+/// Notes a new mutex, which is free.
+fn make<R: Ready + Drop>(k: &mut Kernel<R>, t: Tid, m: u32, kind: Kind)
+    requires ready { CanBegin R.order k.old t }
+    requires limit { m < 256 }
+    requires fresh { IsNone ((view R.order k.old.tables).mutexes m) }
+    ensures { IsNoted R.order k.old k.new (values (begun (set_mutex (view R.order k.old.tables) m (Some (free_mutex kind Protocol.Plain)))) t 0 0).made }
+{
+    let protocol = Protocol::Plain;
+    k.note_two(
+        t,
+        Change::MakeMutex {
+            mutex: m,
+            kind,
+            protocol,
+        },
+        answer(t),
+    );
+}
+
+/// Makes a mutex, by POSIX.1 pthread_mutex_init.
+pub(crate) fn init<R: Ready + Drop>(k: &mut Kernel<R>, t: Tid, c: Arguments) -> Reply
+    requires { CanBegin R.order k.old t }
+    ensures noted { IsNoted R.order k.old k.new (rows.mutex_init (view R.order k.old.tables) t c).made }
+    ensures reply { result ≡ (rows.mutex_init (view R.order k.old.tables) t c).reply }
+{
+    if cannot_init(c) {
+        return k.refuse(t, Errno::EINVAL);
+    }
+    match k.tables().mutex(c.a) {
+        Some(_) => k.refuse(t, Errno::EBUSY),
+        None => {
+            make(k, t, c.a, kind_by(c.b));
+            Reply::Values(0, 0)
+        }
+    }
+}
+
+/// Takes a free mutex away that no waiter of a condition uses, by POSIX.1 pthread_mutex_destroy.
+pub(crate) fn destroy<R: Ready + Drop>(k: &mut Kernel<R>, t: Tid, c: Arguments) -> Reply
+    requires { CanBegin R.order k.old t }
+    ensures noted { IsNoted R.order k.old k.new (rows.mutex_destroy (view R.order k.old.tables) t c).made }
+    ensures reply { result ≡ (rows.mutex_destroy (view R.order k.old.tables) t c).reply }
+{
+    match k.tables().mutex(c.a) {
+        None => k.refuse(t, Errno::EINVAL),
+        Some(look) => destroy_mutex(k, t, c.a, look),
+    }
+}
+
+/// Takes a mutex away, where it is free and no waiter of a condition uses it.
+fn destroy_mutex<R: Ready + Drop>(k: &mut Kernel<R>, t: Tid, m: u32, look: Look) -> Reply
+    requires ready { CanBegin R.order k.old t }
+    requires found { (view R.order k.old.tables).mutexes m ≡ Some (seen look (waiters_of (view R.order k.old.tables) m)) }
+    ensures noted { IsNoted R.order k.old k.new (rows.destroy_of (view R.order k.old.tables) t m (Some (seen look (waiters_of (view R.order k.old.tables) m)))).made }
+    ensures reply { result ≡ (rows.destroy_of (view R.order k.old.tables) t m (Some (seen look (waiters_of (view R.order k.old.tables) m)))).reply }
+{
+    if !look.holder.is_free() || k.tables().is_used(m) {
+        return k.refuse(t, Errno::EBUSY);
+    }
+    k.note_two(t, Change::DestroyMutex { mutex: m }, answer(t));
+    Reply::Values(0, 0)
+}
+
+/// Locks a mutex, or waits for it, by POSIX.1 pthread_mutex_lock.
+pub(crate) fn lock<R: Ready + Drop>(k: &mut Kernel<R>, t: Tid, c: Arguments) -> Reply
+    requires { CanBegin R.order k.old t }
+    ensures noted { IsNoted R.order k.old k.new (rows.lock (view R.order k.old.tables) t c).made }
+    ensures reply { result ≡ (rows.lock (view R.order k.old.tables) t c).reply }
+{
+    match k.tables().mutex(c.a) {
+        None => k.refuse(t, Errno::EINVAL),
+        Some(look) => lock_mutex(k, t, c.a, look),
+    }
+}
+
+/// Locks a mutex that is there, or waits for it.
+fn lock_mutex<R: Ready + Drop>(k: &mut Kernel<R>, t: Tid, m: u32, look: Look) -> Reply
+    requires ready { CanBegin R.order k.old t }
+    requires found { (view R.order k.old.tables).mutexes m ≡ Some (seen look (waiters_of (view R.order k.old.tables) m)) }
+    ensures noted { IsNoted R.order k.old k.new (rows.lock_of (view R.order k.old.tables) t m (Some (seen look (waiters_of (view R.order k.old.tables) m)))).made }
+    ensures reply { result ≡ (rows.lock_of (view R.order k.old.tables) t m (Some (seen look (waiters_of (view R.order k.old.tables) m)))).reply }
+{
+    if is_checked(&look, t) {
+        return k.refuse(t, Errno::EDEADLK);
+    }
+    if is_full(&look, t) {
+        return k.refuse(t, Errno::EAGAIN);
+    }
+    if is_open(&look, t) {
+        take(k, t, m, look.holder.count());
+        return Reply::Values(0, 0);
+    }
+    queue(k, t, m);
+    Reply::Block
+}
+
+/// Locks a mutex where nobody has to wait, by POSIX.1 pthread_mutex_trylock.
+pub(crate) fn trylock<R: Ready + Drop>(k: &mut Kernel<R>, t: Tid, c: Arguments) -> Reply
+    requires { CanBegin R.order k.old t }
+    ensures noted { IsNoted R.order k.old k.new (rows.trylock (view R.order k.old.tables) t c).made }
+    ensures reply { result ≡ (rows.trylock (view R.order k.old.tables) t c).reply }
+{
+    match k.tables().mutex(c.a) {
+        None => k.refuse(t, Errno::EINVAL),
+        Some(look) => trylock_mutex(k, t, c.a, look),
+    }
+}
+
+/// Locks a mutex that is there, where nobody has to wait.
+fn trylock_mutex<R: Ready + Drop>(k: &mut Kernel<R>, t: Tid, m: u32, look: Look) -> Reply
+    requires ready { CanBegin R.order k.old t }
+    requires found { (view R.order k.old.tables).mutexes m ≡ Some (seen look (waiters_of (view R.order k.old.tables) m)) }
+    ensures noted { IsNoted R.order k.old k.new (rows.trylock_of (view R.order k.old.tables) t m (Some (seen look (waiters_of (view R.order k.old.tables) m)))).made }
+    ensures reply { result ≡ (rows.trylock_of (view R.order k.old.tables) t m (Some (seen look (waiters_of (view R.order k.old.tables) m)))).reply }
+{
+    if is_full(&look, t) {
+        return k.refuse(t, Errno::EAGAIN);
+    }
+    if !is_open(&look, t) {
+        return k.refuse(t, Errno::EBUSY);
+    }
+    take(k, t, m, look.holder.count());
+    Reply::Values(0, 0)
+}
+
+/// Unlocks a mutex that the caller has, by POSIX.1 pthread_mutex_unlock.
+pub(crate) fn unlock<R: Ready + Drop>(k: &mut Kernel<R>, t: Tid, c: Arguments) -> Reply
+    requires { CanBegin R.order k.old t }
+    ensures noted { IsNoted R.order k.old k.new (rows.unlock (view R.order k.old.tables) t c).made }
+    ensures reply { result ≡ (rows.unlock (view R.order k.old.tables) t c).reply }
+{
+    match k.tables().mutex(c.a) {
+        None => k.refuse(t, Errno::EINVAL),
+        Some(look) => unlock_mutex(k, t, c.a, look),
+    }
+}
+
+/// Unlocks a mutex that is there.
+fn unlock_mutex<R: Ready + Drop>(k: &mut Kernel<R>, t: Tid, m: u32, look: Look) -> Reply
+    requires ready { CanBegin R.order k.old t }
+    requires found { (view R.order k.old.tables).mutexes m ≡ Some (seen look (waiters_of (view R.order k.old.tables) m)) }
+    ensures noted { IsNoted R.order k.old k.new (rows.unlock_of (view R.order k.old.tables) t m (Some (seen look (waiters_of (view R.order k.old.tables) m)))).made }
+    ensures reply { result ≡ (rows.unlock_of (view R.order k.old.tables) t m (Some (seen look (waiters_of (view R.order k.old.tables) m)))).reply }
+{
+    if !look.holder.is_held_by(t) {
+        return k.refuse(t, Errno::EPERM);
+    }
+    release(k, t, m, look.holder.count());
+    Reply::Values(0, 0)
+}
+
+/// Notes that the caller has locked a mutex once less that it had so often; with the last lock the mutex is handed
+/// over.
+fn release<R: Ready + Drop>(k: &mut Kernel<R>, t: Tid, m: u32, count: u32)
+    requires ready { CanBegin R.order k.old t }
+    requires count { count ≡ count_of (holder_of (view R.order k.old.tables) m) }
+    requires held { is_held_by (holder_of (view R.order k.old.tables) m) t ≡ true }
+    ensures { (mutex : Mutex) → (view R.order k.old.tables).mutexes m ≡ Some mutex
+        → IsNoted R.order k.old k.new (values (rows.released (view R.order k.old.tables) t m mutex) t 0 0).made }
+{
+    if count == 1 {
+        hand_and_answer(k, t, m);
+    } else {
+        hold(
+            k,
+            t,
+            m,
+            Holder::Held {
+                by: t,
+                count: count - 1,
+            },
+        );
+    }
+}
+
+/// Notes that a mutex goes to its best waiter, or is free, and that the caller is answered.
+fn hand_and_answer<R: Ready + Drop>(k: &mut Kernel<R>, t: Tid, m: u32)
+    requires ready { CanBegin R.order k.old t }
+    requires exists { IsSome ((view R.order k.old.tables).mutexes m) }
+    ensures { (mutex : Mutex) → (view R.order k.old.tables).mutexes m ≡ Some mutex
+        → IsNoted R.order k.old k.new (values (hand (begun (view R.order k.old.tables)) m mutex (best_waiter (view R.order k.old.tables) mutex)) t 0 0).made }
+{
+    hand_over(k, m);
+    k.note_more(answer(t));
+}

@@ -1,0 +1,10 @@
+//! Programs as tests: each row is an image of a few items and the whole text of its replay. Here are those of threads.
+#![tactic(auto)]
+
+#[cfg(test)]
+mod calls;
+#[cfg(test)]
+mod joins;
+pub mod program;
+#[cfg(test)]
+mod threads;
