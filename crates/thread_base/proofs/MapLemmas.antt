@@ -35,6 +35,26 @@ put_comm m t u x y h =
       | inr e ↦ put_other (put m u y) t x v e ∙ put_other m u y v k ∙ sym (put_other m t x v e)
     ]))
 
+-- what is read of a map after a change
+pub at_same : {A B : Type 0} (f : B → A) (m : ℕ → B) (t u : ℕ) (x : B) → u ≡ t → f (put m t x u) ≡ f x
+at_same f m t u x e = ap (λ v. f (put m t x v)) e ∙ ap f (put_same m t x)
+
+pub at_other : {A B : Type 0} (f : B → A) (m : ℕ → B) (t u : ℕ) (x : B) → u ≢ t → f (put m t x u) ≡ f (m u)
+at_other f m t u x ne = ap f (put_other m t x u ne)
+
+-- what a change leaves stays everywhere
+pub kept : {A B : Type 0} (f : B → A) (m : ℕ → B) (t u : ℕ) (x : B) → f x ≡ f (m t) → f (put m t x u) ≡ f (m u)
+kept f m t u x e =
+    elim (cases_eq u t) [
+      | inl same ↦ at_same f m t u x same ∙ e ∙ ap (λ v. f (m v)) (sym same)
+      | inr other ↦ at_other f m t u x other
+    ]
+
+-- a reading of a map that changed is the reading, changed
+pub map_put : {A B : Type 0} (f : A → B) (m : ℕ → A) (t : ℕ) (x : A) → (λ u. f (put m t x u)) ≡ put (λ u. f (m u)) t (f x)
+map_put {B = B} f m t x =
+    put_is {A = B} (λ u. f (m u)) (λ u. f (put m t x u)) t (f x) (ap f (put_same m t x)) (λ u ne. ap f (put_other m t x u ne))
+
 pub numbered_get : {A : Type 0} (none d : A) (xs : List A) (i t : ℕ) → i + 1 ≡ t → i < length xs → get_or xs i d ≡ numbered none xs t
 unfolding numbered
 numbered_get none d xs i t e h =

@@ -1,18 +1,10 @@
 -- Lists of threads after a push or a removal, and how long they are.
 use Rattle.std.proofs.Common.{◌≡◌, ◌≢◌, ℕ, Bool, true, false, cond, refl, sym, ap, subst, ◌∙◌, inl, inr, eqb, arith, List, [], ◌∷◌, ◌++◌, ◌<◌, ◌≤◌, length, ◌||◌, filter}
-use Rattle.std.proofs.lemmas.Bool.{eq-eqb, ne_eqb, eqb-true, eqb-false, cases_eq, cases_Bool}
+use Rattle.std.proofs.lemmas.Bool.{eq-eqb, ne_eqb, eqb-true, eqb-false, cases_eq, cases_Bool, or_parts, or_from, or_right}
 use Rattle.std.proofs.lemmas.List.Folds.{list_any-append}
 use Rattle.std.proofs.lemmas.Map.Steps.{length-le_from_distinct_below}
 use Rattle.std.specs.List.{IsDistinct, AllByRecursion}
 use Rattle.thread_base.specs.Orders.{is_in, without, IsOrder}
-
-or_false : (a b : Bool) → a || b ≡ false → (a ≡ false) × (b ≡ false)
-or_false true b h = absurd (let e : true ≡ false = h in cc)
-or_false false b h = (refl, h)
-
-or_is_false : (a b : Bool) → a ≡ false → b ≡ false → a || b ≡ false
-or_is_false true b e f = let x : true ≡ false = e in cc
-or_is_false false b e f = f
 
 eqb_comm : (a b : ℕ) → eqb a b ≡ false → eqb b a ≡ false
 eqb_comm a b h = ne_eqb b a (λ e. eqb-false a b h (sym e))
@@ -20,19 +12,19 @@ eqb_comm a b h = ne_eqb b a (λ e. eqb-false a b h (sym e))
 pub IsOrder-push : (ts : List ℕ) (t : ℕ) → IsOrder ts → 1 ≤ t → t ≤ 64 → is_in t ts ≡ false → IsOrder (ts ++ t ∷ [])
 IsOrder-push [] t h a b n = (a, b, refl, tt)
 IsOrder-push (u ∷ us) t h a b n =
-    let apart = or_false (eqb t u) (is_in t us) n in (
+    let apart = or_parts (eqb t u) (is_in t us) n in (
       h.0,
       h.1,
-      list_any-append (λ v. eqb u v) us (t ∷ []) ∙ or_is_false (is_in u us) (eqb u t || false) h.2 (or_is_false (eqb u t) false (eqb_comm t u apart.0) refl),
+      list_any-append (λ v. eqb u v) us (t ∷ []) ∙ or_from (is_in u us) (eqb u t || false) h.2 (or_from (eqb u t) false (eqb_comm t u apart.0) refl),
       IsOrder-push us t h.3 a b apart.1,
     )
 
 not_in_filter : (u : ℕ) (p : ℕ → Bool) (ts : List ℕ) → is_in u ts ≡ false → is_in u (filter p ts) ≡ false
 not_in_filter u p [] h = refl
 not_in_filter u p (v ∷ vs) h =
-    let apart = or_false (eqb u v) (is_in u vs) h in
+    let apart = or_parts (eqb u v) (is_in u vs) h in
     elim (p v) as (λ b. is_in u (cond b (v ∷ filter p vs) (filter p vs)) ≡ false) [
-      | true ↦ or_is_false (eqb u v) (is_in u (filter p vs)) apart.0 (not_in_filter u p vs apart.1)
+      | true ↦ or_from (eqb u v) (is_in u (filter p vs)) apart.0 (not_in_filter u p vs apart.1)
       | false ↦ not_in_filter u p vs apart.1
     ]
 
@@ -49,12 +41,12 @@ not_in-without t [] = refl
 not_in-without t (u ∷ us) =
     elim (cases_Bool (eqb u t)) [
       | inl is ↦ rw is (not_in-without t us)
-      | inr un ↦ rw un (or_is_false (eqb t u) (is_in t (without t us)) (eqb_comm u t un) (not_in-without t us))
+      | inr un ↦ rw un (or_from (eqb t u) (is_in t (without t us)) (eqb_comm u t un) (not_in-without t us))
     ]
 
 apart : (t : ℕ) (ts : List ℕ) → is_in t ts ≡ false → AllByRecursion (λ u. eqb t u ≡ false) ts
 apart t [] h = tt
-apart t (u ∷ us) h = let a = or_false (eqb t u) (is_in t us) h in (a.0, apart t us a.1)
+apart t (u ∷ us) h = let a = or_parts (eqb t u) (is_in t us) h in (a.0, apart t us a.1)
 
 distinct : (ts : List ℕ) → IsOrder ts → IsDistinct eqb ts
 unfolding IsDistinct
@@ -107,22 +99,17 @@ is_in-without t u (v ∷ vs) n =
 pub without_absent : (t : ℕ) (ts : List ℕ) → is_in t ts ≡ false → without t ts ≡ ts
 without_absent t [] h = refl
 without_absent t (u ∷ us) h =
-    let a = or_false (eqb t u) (is_in t us) h in
+    let a = or_parts (eqb t u) (is_in t us) h in
     rw (eqb_comm t u a.0) (ap (λ vs. u ∷ vs) (without_absent t us a.1))
 
-either_true : (a b : Bool) → b ≡ true → a || b ≡ true
-either_true true b h = refl
-either_true false b h = h
-
 or_nothing : (a : Bool) → a || (false || false) ≡ a
-or_nothing true = refl
-or_nothing false = refl
+or_nothing a = grind arith
 
 -- a thread that is put behind a list is in it
 pub is_in-pushed : (t : ℕ) (ts : List ℕ) → is_in t (ts ++ t ∷ []) ≡ true
 is_in-pushed t ts =
     list_any-append (λ v. eqb t v) ts (t ∷ [])
-    ∙ either_true (is_in t ts) (eqb t t || false) (ap (λ b. b || false) (eq-eqb t t refl))
+    ∙ or_right (is_in t ts) (eqb t t || false) (ap (λ b. b || false) (eq-eqb t t refl))
 
 -- and another is in it where it was
 pub is_in-push : (t u : ℕ) (ts : List ℕ) → u ≢ t → is_in u (ts ++ t ∷ []) ≡ is_in u ts

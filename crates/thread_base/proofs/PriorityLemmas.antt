@@ -1,9 +1,10 @@
 -- The first of the greatest, as a loop from the front finds it.
-use Rattle.std.proofs.Common.{◌≡◌, ℕ, Bool, true, false, cond, refl, sym, ap, ◌∙◌, inl, inr, ltb, eqb, arith, List, [], ◌∷◌, ◌++◌, ◌<◌, ◌≤◌, max, Option, Some, None, find, ◌||◌}
+use Rattle.std.proofs.Common.{◌≡◌, ℕ, true, false, cond, refl, sym, ap, ◌∙◌, inl, inr, ltb, eqb, arith, List, [], ◌∷◌, ◌++◌, ◌<◌, ◌≤◌, max, Option, Some, None, find}
 use Rattle.thread_base.specs.Orders.{is_in}
-use Rattle.std.proofs.lemmas.Bool.{eq-eqb, eqb-true, ne_eqb, cases_lt, cases_Bool, lt-ltb, le-ltb}
+use Rattle.std.proofs.lemmas.Bool.{eq-eqb, eqb-true, ne_eqb, cases_lt, cases_Bool, or_left, or_right, lt-ltb, le-ltb}
 use Rattle.std.proofs.lemmas.List.Folds.{find-append}
 use Rattle.std.specs.Option.{option_or}
+use Rattle.thread_base.proofs.SearchLemmas.{find_member}
 use Rattle.thread_base.specs.Priority.{greatest, first_greatest}
 
 abbrev pub better : (ℕ → ℕ) → Option ℕ → ℕ → Option ℕ
@@ -55,38 +56,22 @@ module _ (p : ℕ → ℕ) where
             ∙ sym (ap (λ o. better p o x) front.1 ∙ ap (λ b. cond b (Some x) (Some front.0)) test)
       ]
 
-either_true : (a b : Bool) → a ≡ true → a || b ≡ true
-either_true true b h = refl
-either_true false b h = let e : false ≡ true = h in cc
-
-other_true : (a b : Bool) → b ≡ true → a || b ≡ true
-other_true true b h = refl
-other_true false b h = h
-
 -- keys that agree on the list have one first of the greatest
 module _ (p q : ℕ → ℕ) where
   greatest_agree : (xs : List ℕ) → ((x : ℕ) → is_in x xs ≡ true → p x ≡ q x) → greatest p xs ≡ greatest q xs
   greatest_agree [] h = refl
-  greatest_agree (x ∷ xs) h = λ i. max (h x (either_true (eqb x x) (is_in x xs) (eq-eqb x x refl)) i) (greatest_agree xs (λ y e. h y (other_true (eqb y x) (is_in y xs) e)) i)
+  greatest_agree (x ∷ xs) h = λ i. max (h x (or_left (eqb x x) (is_in x xs) (eq-eqb x x refl)) i) (greatest_agree xs (λ y e. h y (or_right (eqb y x) (is_in y xs) e)) i)
 
   find_agree : (n : ℕ) (xs : List ℕ) → ((x : ℕ) → is_in x xs ≡ true → p x ≡ q x) → find (λ x. eqb (p x) n) xs ≡ find (λ x. eqb (q x) n) xs
   find_agree n [] h = refl
-  find_agree n (x ∷ xs) h = λ i. cond (eqb (h x (either_true (eqb x x) (is_in x xs) (eq-eqb x x refl)) i) n) (Some x) (find_agree n xs (λ y e. h y (other_true (eqb y x) (is_in y xs) e)) i)
+  find_agree n (x ∷ xs) h = λ i. cond (eqb (h x (or_left (eqb x x) (is_in x xs) (eq-eqb x x refl)) i) n) (Some x) (find_agree n xs (λ y e. h y (or_right (eqb y x) (is_in y xs) e)) i)
 
   pub first_agree : (xs : List ℕ) → ((x : ℕ) → is_in x xs ≡ true → p x ≡ q x) → first_greatest p xs ≡ first_greatest q xs
   first_agree xs h = ap (λ n. find (λ x. eqb (p x) n) xs) (greatest_agree xs h) ∙ find_agree (greatest q xs) xs h
 
-found_in : (test : ℕ → Bool) (xs : List ℕ) (x : ℕ) → find test xs ≡ Some x → is_in x xs ≡ true
-found_in test [] x e = let h : None ≡ Some x = e in cc
-found_in test (y ∷ ys) x e =
-    elim (cases_Bool (test y)) [
-      | inl h ↦ (let f : Some y ≡ Some x = rw h at e in let same : x ≡ y = cc in either_true (eqb x y) (is_in x ys) (eq-eqb x y same))
-      | inr h ↦ other_true (eqb x y) (is_in x ys) (found_in test ys x (rw h at e))
-    ]
-
 -- the first of the greatest is in the list
 pub first_in : (p : ℕ → ℕ) (xs : List ℕ) (x : ℕ) → first_greatest p xs ≡ Some x → is_in x xs ≡ true
-first_in p xs x e = found_in (λ y. eqb (p y) (greatest p xs)) xs x e
+first_in p xs x e = find_member (λ y. eqb (p y) (greatest p xs)) xs x e
 
 -- of one thread alone, it is the first
 pub first_of_one : (p : ℕ → ℕ) (x : ℕ) → first_greatest p (x ∷ []) ≡ Some x

@@ -2,36 +2,12 @@
 use Rattle.std.proofs.Common.{◌≡◌, ◌∙◌, ℕ, zero, suc, Bool, true, false, not, refl, sym, subst, inl, inr, ◌⊎◌, eqb, arith, List, [], ◌∷◌, ◌||◌, ◌-◌, ◌≤◌, ◌<◌, length, Option, Some, None}
 use Rattle.std.specs.Prelude.{◌&&◌, if◌then◌else◌}
 use Rattle.std.specs.List.{range_with_len}
-use Rattle.std.proofs.lemmas.Bool.{cases_Bool, eqb-true, eq-eqb}
+use Rattle.std.proofs.lemmas.Bool.{cases_Bool, eqb-true, eq-eqb, and_parts, and_from, not-true, or_cases, or_left, or_right}
 use Rattle.thread_base.specs.Orders.{is_in, IsOrder}
 use Rattle.thread_base.specs.Priority.{tids, greatest, leads, effective, Leads, here, along, AreWithin, IsEffective, EffectiveIsGreatest}
 use Rattle.thread_base.proofs.OrderLemmas.{room}
 use Rattle.thread_base.proofs.PriorityLemmas.{greatest_above, greatest_at}
 use Rattle.thread_base.proofs.SearchLemmas.{in_tids, tids_in}
-
-both_true : (a b : Bool) → a && b ≡ true → (a ≡ true) × (b ≡ true)
-both_true true b h = (refl, h)
-both_true false b h = absurd (let e : false ≡ true = h in cc)
-
-true_both : (a b : Bool) → a ≡ true → b ≡ true → a && b ≡ true
-true_both true b p q = q
-true_both false b p q = let e : false ≡ true = p in cc
-
-denied : (a : Bool) → not a ≡ true → a ≡ false
-denied true h = let e : false ≡ true = h in cc
-denied false h = refl
-
-one_of : (a b : Bool) → a || b ≡ true → (a ≡ true) ⊎ (b ≡ true)
-one_of true b h = inl refl
-one_of false b h = inr h
-
-left_true : (a b : Bool) → a ≡ true → a || b ≡ true
-left_true true b h = refl
-left_true false b h = let e : false ≡ true = h in cc
-
-right_true : (a b : Bool) → b ≡ true → a || b ≡ true
-right_true true b h = refl
-right_true false b h = h
 
 -- a way of at most so many steps on which no thread of a list stands
 abbrev pub passes_by : (ℕ → Option ℕ) → List ℕ → ℕ → Option ℕ → ℕ → Bool
@@ -45,20 +21,20 @@ unfolding leads
 any_way edge n None t h = h
 any_way edge zero (Some from) t h = h
 any_way edge (suc n) (Some from) t h =
-    elim (one_of (eqb from t) (leads edge n (edge from) t) h) [
-      | inl there ↦ left_true (eqb from t) _ there
-      | inr on ↦ right_true (eqb from t) _ (any_way edge n (edge from) t on)
+    elim (or_cases (eqb from t) (leads edge n (edge from) t) h) [
+      | inl there ↦ or_left (eqb from t) _ there
+      | inr on ↦ or_right (eqb from t) _ (any_way edge n (edge from) t on)
     ]
 
 module _ (edge : ℕ → Option ℕ) (t : ℕ) where
   arrived : (n u : ℕ) → eqb u t ≡ true → leads edge n (Some u) t ≡ true
   unfolding leads
   arrived zero u h = h
-  arrived (suc n) u h = left_true (eqb u t) (leads edge n (edge u) t) h
+  arrived (suc n) u h = or_left (eqb u t) (leads edge n (edge u) t) h
 
   one_further : (n k u : ℕ) → n ≡ suc k → leads edge k (edge u) t ≡ true → leads edge n (Some u) t ≡ true
   unfolding leads
-  one_further n k u e h = rw e (right_true (eqb u t) (leads edge k (edge u) t) h)
+  one_further n k u e h = rw e (or_right (eqb u t) (leads edge k (edge u) t) h)
 
   -- a way that comes by u can begin at u, and is no longer for it
   shortened : (u : ℕ) (seen : List ℕ) (n : ℕ) (o : Option ℕ) → passes_by edge seen n o t ≡ true
@@ -73,20 +49,20 @@ module _ (edge : ℕ → Option ℕ) (t : ℕ) where
       elim (cases_Bool (eqb from u)) [
         | inl is ↦ inr (suc n, omega arith, subst (λ x. passes_by edge seen (suc n) (Some x) t ≡ true) (eqb-true from u is) h)
         | inr apart ↦
-            (let parts = both_true (not (is_in from seen)) (eqb from t || passes_by edge seen n (edge from) t) h in
+            (let parts = and_parts (not (is_in from seen)) (eqb from t || passes_by edge seen n (edge from) t) h in
             let fresh : not (is_in from (u ∷ seen)) ≡ true = rw apart parts.0 in
-            elim (one_of (eqb from t) (passes_by edge seen n (edge from) t) parts.1) [
-              | inl there ↦ inl (true_both (not (is_in from (u ∷ seen))) _ fresh (left_true (eqb from t) (passes_by edge (u ∷ seen) n (edge from) t) there))
+            elim (or_cases (eqb from t) (passes_by edge seen n (edge from) t) parts.1) [
+              | inl there ↦ inl (and_from (not (is_in from (u ∷ seen))) _ fresh (or_left (eqb from t) (passes_by edge (u ∷ seen) n (edge from) t) there))
               | inr on ↦ elim (shortened u seen n (edge from) on) [
-                | inl by ↦ inl (true_both (not (is_in from (u ∷ seen))) _ fresh (right_true (eqb from t) (passes_by edge (u ∷ seen) n (edge from) t) by))
+                | inl by ↦ inl (and_from (not (is_in from (u ∷ seen))) _ fresh (or_right (eqb from t) (passes_by edge (u ∷ seen) n (edge from) t) by))
                 | inr short ↦ inr (short.0, (let less = short.1 in omega arith), short.2)
               ]
             ])
       ]
 
   first_unseen : (seen : List ℕ) (n u : ℕ) → passes_by edge seen n (Some u) t ≡ true → is_in u seen ≡ false
-  first_unseen seen zero u h = denied (is_in u seen) (both_true (not (is_in u seen)) (eqb u t) h).0
-  first_unseen seen (suc n) u h = denied (is_in u seen) (both_true (not (is_in u seen)) (eqb u t || passes_by edge seen n (edge u) t) h).0
+  first_unseen seen zero u h = not-true (is_in u seen) (and_parts (not (is_in u seen)) (eqb u t) h).0
+  first_unseen seen (suc n) u h = not-true (is_in u seen) (and_parts (not (is_in u seen)) (eqb u t || passes_by edge seen n (edge u) t) h).0
 
   module _ (inside : AreWithin edge) where
     -- the way goes on behind u, which is seen from now on
@@ -105,11 +81,11 @@ module _ (edge : ℕ → Option ℕ) (t : ℕ) where
     walk : (most n u : ℕ) (seen : List ℕ) → n < most → IsOrder seen → 1 ≤ u → u ≤ 64 → passes_by edge seen n (Some u) t ≡ true
         → leads edge (63 - length seen) (Some u) t ≡ true
     walk zero n u seen less order low high h = absurd (omega arith)
-    walk (suc most) zero u seen less order low high h = arrived (63 - length seen) u (both_true (not (is_in u seen)) (eqb u t) h).1
+    walk (suc most) zero u seen less order low high h = arrived (63 - length seen) u (and_parts (not (is_in u seen)) (eqb u t) h).1
     walk (suc most) (suc n) u seen less order low high h =
-        let parts = both_true (not (is_in u seen)) (eqb u t || passes_by edge seen n (edge u) t) h in
-        let more : IsOrder (u ∷ seen) = (low, high, denied (is_in u seen) parts.0, order) in
-        elim (one_of (eqb u t) (passes_by edge seen n (edge u) t) parts.1) [
+        let parts = and_parts (not (is_in u seen)) (eqb u t || passes_by edge seen n (edge u) t) h in
+        let more : IsOrder (u ∷ seen) = (low, high, not-true (is_in u seen) parts.0, order) in
+        elim (or_cases (eqb u t) (passes_by edge seen n (edge u) t) parts.1) [
           | inl there ↦ arrived (63 - length seen) u there
           | inr on ↦ elim (shortened u seen n (edge u) on) [
             | inl by ↦ behind n u seen more (edge u) refl by (λ v low' high' by'. walk most n v (u ∷ seen) (omega arith) more low' high' by')
@@ -125,11 +101,11 @@ within_63 edge inside n u t low high h = walk edge t inside (suc n) n u [] (omeg
 longer : (edge : ℕ → Option ℕ) (n : ℕ) (o : Option ℕ) (t : ℕ) → leads edge n o t ≡ true → leads edge (suc n) o t ≡ true
 unfolding leads
 longer edge n None t h = h
-longer edge zero (Some u) t h = left_true (eqb u t) (leads edge 0 (edge u) t) h
+longer edge zero (Some u) t h = or_left (eqb u t) (leads edge 0 (edge u) t) h
 longer edge (suc n) (Some u) t h =
-    elim (one_of (eqb u t) (leads edge n (edge u) t) h) [
-      | inl there ↦ left_true (eqb u t) (leads edge (suc n) (edge u) t) there
-      | inr on ↦ right_true (eqb u t) (leads edge (suc n) (edge u) t) (longer edge n (edge u) t on)
+    elim (or_cases (eqb u t) (leads edge n (edge u) t) h) [
+      | inl there ↦ or_left (eqb u t) (leads edge (suc n) (edge u) t) there
+      | inr on ↦ or_right (eqb u t) (leads edge (suc n) (edge u) t) (longer edge n (edge u) t on)
     ]
 
 -- a chain of edges has a number of steps
@@ -149,7 +125,7 @@ pub related : (edge : ℕ → Option ℕ) (n u t : ℕ) → leads edge n (Some u
 unfolding leads
 related edge zero u t h = subst (λ x. Leads edge u x) (eqb-true u t h) here
 related edge (suc n) u t h =
-    elim (one_of (eqb u t) (leads edge n (edge u) t) h) [
+    elim (or_cases (eqb u t) (leads edge n (edge u) t) h) [
       | inl there ↦ subst (λ x. Leads edge u x) (eqb-true u t there) here
       | inr on ↦ chained edge n u t (edge u) refl on (λ v way. related edge n v t way)
     ]

@@ -1,6 +1,6 @@
 -- The first number of a range that passes a test, and whether one passes.
-use Rattle.std.proofs.Common.{◌≡◌, ◌≢◌, ℕ, zero, suc, ◌+◌, ◌-◌, ◌<◌, ◌≤◌, Bool, true, false, inl, inr, refl, ap, subst, ◌∙◌, arith, eqb, ◌||◌, List, [], ◌∷◌, find, Option, Some, None}
-use Rattle.std.proofs.lemmas.Bool.{cases_eq, cases_Bool, eq-eqb, eqb-true}
+use Rattle.std.proofs.Common.{◌≡◌, ◌≢◌, ℕ, zero, suc, ◌+◌, ◌-◌, ◌<◌, ◌≤◌, Bool, true, false, inl, inr, refl, ap, subst, ◌∙◌, arith, eqb, List, [], ◌∷◌, find, Option, Some, None}
+use Rattle.std.proofs.lemmas.Bool.{cases_eq, cases_Bool, eq-eqb, eqb-true, or_left, or_right, or_parts}
 use Rattle.std.specs.List.{range_with_len, list_any}
 use Rattle.thread_base.specs.Orders.{is_in}
 use Rattle.thread_base.specs.Priority.{tids}
@@ -13,6 +13,16 @@ find_only test first (suc count) x passes others low high =
     elim (cases_eq first x) [
       | inl same ↦ (let here : test first ≡ true = ap test same ∙ passes in rw here (ap Some same))
       | inr other ↦ (let skip : test first ≡ false = others first other in rw skip (find_only test (first + 1) count x passes others (omega arith) (omega arith)))
+    ]
+
+-- a number of the range that passes while no lower number does is found
+pub find_first : (test : ℕ → Bool) (first count x : ℕ) → test x ≡ true → ((u : ℕ) → u < x → test u ≡ false) → first ≤ x → x < first + count
+    → find test (range_with_len first count) ≡ Some x
+find_first test first zero x passes others low high = absurd (omega arith)
+find_first test first (suc count) x passes others low high =
+    elim (cases_eq first x) [
+      | inl same ↦ (let here : test first ≡ true = ap test same ∙ passes in rw here (ap Some same))
+      | inr other ↦ (let skip : test first ≡ false = others first (omega arith) in rw skip (find_first test (first + 1) count x passes others (omega arith) (omega arith)))
     ]
 
 -- where none passes, none is found
@@ -29,25 +39,13 @@ find_passes test (y ∷ ys) x e =
       | inr h ↦ find_passes test ys x (rw h at e)
     ]
 
-true_or : (a b : Bool) → a ≡ true → a || b ≡ true
-true_or true b h = refl
-true_or false b h = let e : false ≡ true = h in cc
-
-or_true : (a b : Bool) → b ≡ true → a || b ≡ true
-or_true true b h = refl
-or_true false b h = h
-
-neither : (a b : Bool) → a || b ≡ false → (a ≡ false) × (b ≡ false)
-neither true b h = absurd (let e : true ≡ false = h in cc)
-neither false b h = (refl, h)
-
 -- and is a member
 pub find_member : (test : ℕ → Bool) (xs : List ℕ) (x : ℕ) → find test xs ≡ Some x → is_in x xs ≡ true
 find_member test [] x e = let h : None ≡ Some x = e in cc
 find_member test (y ∷ ys) x e =
     elim (cases_Bool (test y)) [
-      | inl h ↦ (let f : Some y ≡ Some x = rw h at e in let same : x ≡ y = cc in true_or (eqb x y) (is_in x ys) (eq-eqb x y same))
-      | inr h ↦ or_true (eqb x y) (is_in x ys) (find_member test ys x (rw h at e))
+      | inl h ↦ (let f : Some y ≡ Some x = rw h at e in let same : x ≡ y = cc in or_left (eqb x y) (is_in x ys) (eq-eqb x y same))
+      | inr h ↦ or_right (eqb x y) (is_in x ys) (find_member test ys x (rw h at e))
     ]
 
 -- where nothing is found, no member passes
@@ -66,7 +64,7 @@ find_none test (y ∷ ys) x h e =
 pub any_none : (test : ℕ → Bool) (xs : List ℕ) (x : ℕ) → list_any test xs ≡ false → is_in x xs ≡ true → test x ≡ false
 any_none test [] x h e = let f : false ≡ true = e in cc
 any_none test (y ∷ ys) x h e =
-    let both = neither (test y) (list_any test ys) h in
+    let both = or_parts (test y) (list_any test ys) h in
     elim (cases_Bool (eqb x y)) [
       | inl same ↦ ap test (eqb-true x y same) ∙ both.0
       | inr other ↦ any_none test ys x both.1 (rw other at e)
@@ -76,23 +74,23 @@ any_none test (y ∷ ys) x h e =
 pub none_any : (test : ℕ → Bool) (xs : List ℕ) → ((x : ℕ) → is_in x xs ≡ true → test x ≡ false) → list_any test xs ≡ false
 none_any test [] h = refl
 none_any test (y ∷ ys) h =
-    rw (h y (true_or (eqb y y) (is_in y ys) (eq-eqb y y refl))) (none_any test ys (λ x e. h x (or_true (eqb x y) (is_in x ys) e)))
+    rw (h y (or_left (eqb y y) (is_in y ys) (eq-eqb y y refl))) (none_any test ys (λ x e. h x (or_right (eqb x y) (is_in x ys) e)))
 
 -- a member that passes
 pub any_some : (test : ℕ → Bool) (xs : List ℕ) (x : ℕ) → is_in x xs ≡ true → test x ≡ true → list_any test xs ≡ true
 any_some test [] x e h = let f : false ≡ true = e in cc
 any_some test (y ∷ ys) x e h =
     elim (cases_Bool (eqb x y)) [
-      | inl same ↦ true_or (test y) (list_any test ys) (subst (λ z. test z ≡ true) (eqb-true x y same) h)
-      | inr other ↦ or_true (test y) (list_any test ys) (any_some test ys x (rw other at e) h)
+      | inl same ↦ or_left (test y) (list_any test ys) (subst (λ z. test z ≡ true) (eqb-true x y same) h)
+      | inr other ↦ or_right (test y) (list_any test ys) (any_some test ys x (rw other at e) h)
     ]
 
 pub in_range : (first count u : ℕ) → first ≤ u → u < first + count → is_in u (range_with_len first count) ≡ true
 in_range first zero u low high = absurd (omega arith)
 in_range first (suc count) u low high =
     elim (cases_eq u first) [
-      | inl same ↦ true_or (eqb u first) (is_in u (range_with_len (first + 1) count)) (eq-eqb u first same)
-      | inr other ↦ or_true (eqb u first) (is_in u (range_with_len (first + 1) count)) (in_range (first + 1) count u (omega arith) (omega arith))
+      | inl same ↦ or_left (eqb u first) (is_in u (range_with_len (first + 1) count)) (eq-eqb u first same)
+      | inr other ↦ or_right (eqb u first) (is_in u (range_with_len (first + 1) count)) (in_range (first + 1) count u (omega arith) (omega arith))
     ]
 
 pub range_in : (first count u : ℕ) → is_in u (range_with_len first count) ≡ true → (first ≤ u) × (u < first + count)

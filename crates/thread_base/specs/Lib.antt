@@ -3,3 +3,5 @@ pub mod Maps
 pub mod Orders
 pub mod Priority
 pub mod Holders
+pub mod Objects
+pub mod Actions

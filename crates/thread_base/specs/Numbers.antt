@@ -1,6 +1,8 @@
 -- The ranges of numbers, and the numbers of names.
 use Rattle.std.specs.Prelude.{ℕ, ◌≤◌, ◌==◌, ◌&&◌, ◌||◌, Bool, not, IsTrue, nat_le, nat_lt, if◌then◌else◌, bit_and}
 use Rattle.std.specs.Int.{bit_at}
+use Rattle.thread_base.specs.declared.Family.{Family}
+use Rattle.thread_base.specs.declared.Family.TheVariants.{Threads, Sync, Signals}
 use Rattle.thread_base.specs.declared.Policy.{Policy}
 use Rattle.thread_base.specs.declared.Policy.TheVariants.{Other, Fifo, Rr}
 use Rattle.thread_base.specs.declared.Errno.{Errno}
@@ -41,6 +43,10 @@ set_of word = bit_and word all_blocked
 -- a number that the call table has (this project's own numbers)
 abbrev pub IsCall : ℕ → Type 0
 IsCall n = IsTrue ((n == 63) || ((n == 64) || ((n == 93) || (nat_le 256 n && nat_le n 294))))
+
+-- the part of the kernel in which a call of the table begins (this project's own)
+abbrev pub family_of : ℕ → Family
+family_of n = if n == 93 || (nat_le 256 n && nat_le n 273) then Threads else if nat_le 274 n && nat_le n 285 then Sync else Signals
 
 -- a policy's number (Linux)
 abbrev pub IsPolicy : ℕ → Type 0

@@ -1,6 +1,11 @@
 -- Lists of threads in which no thread stands twice.
-use Rattle.std.specs.Prelude.{◌≡◌, ℕ, ◌==◌, ◌≤◌, Bool, false, not, List, [], ◌∷◌, filter}
+use Rattle.std.specs.Prelude.{◌≡◌, ℕ, ◌==◌, ◌≤◌, Bool, true, false, not, List, [], ◌∷◌, filter}
 use Rattle.std.specs.List.{list_any}
+
+-- a list has no member
+abbrev pub is_nil : {A : Type 0} → List A → Bool
+is_nil [] = true
+is_nil (x ∷ xs) = false
 
 -- a thread stands in a list
 abbrev pub is_in : ℕ → List ℕ → Bool

@@ -2,11 +2,13 @@
 #![tactic(auto)]
 
 ghost use Rattle.std.specs.Prelude.{◌≡◌, ◌<◌, ◌≤◌, ◌+◌, ◌&&◌, ℕ, SomeIff};
-ghost use Rattle.thread_base.specs.Numbers.{IsTid, IsPrio, IsInScope, IsCall, IsPolicy, can_block, has_signal, set_of, policy_of, code_of};
+ghost use Rattle.thread_base.specs.Numbers.{IsTid, IsPrio, IsInScope, IsCall, IsPolicy, can_block, has_signal, set_of, policy_of, code_of, family_of};
 ghost use Rattle.thread_base.specs.Priority.{EffectiveIsGreatest};
 
+mod action;
 mod mutex;
 
+pub use action::Action;
 pub use mutex::{Holder, Kind, Protocol};
 use std::marker::Model;
 
@@ -174,6 +176,13 @@ impl SigSet {
         SigSet(word & ALL_BLOCKED)
     }
 
+    /// Its word, in which bit s stands for signal s.
+    pub fn word(self) -> u32
+        ensures { result ≡ self }
+    {
+        self.0
+    }
+
     /// Whether a signal is in the set.
     pub fn has(self, s: Sig) -> bool
         ensures { result ≡ has_signal self s }
@@ -241,6 +250,15 @@ impl Errno {
     }
 }
 
+/// The parts of the kernel in which calls begin: threads and the exit of the process, mutexes and condition
+/// variables, and input, output, signals and time.
+#[derive(Clone, Copy, Debug, PartialEq, Eq)]
+pub enum Family {
+    Threads,
+    Sync,
+    Signals,
+}
+
 /// The number of a call in the call table: 63, 64, 93, or 256 to 294.
 #[derive(Clone, Copy, Debug, PartialEq, Eq)]
 pub struct CallNo(u32);
@@ -276,6 +294,17 @@ impl CallNo {
         ensures table { IsCall self }
     {
         self.0
+    }
+
+    /// The part of the kernel in which it begins.
+    pub fn family(self) -> Family
+        ensures { result ≡ family_of self }
+    {
+        match self.0 {
+            93 | 256..=273 => Family::Threads,
+            274..=285 => Family::Sync,
+            _ => Family::Signals,
+        }
     }
 }
 
@@ -328,6 +357,20 @@ mod tests {
         ] {
             assert_eq!(rt; CallNo::new(n).is_some(), call, "call {n}");
         }
+        for (n, family) in [
+            (64, Family::Signals),
+            (93, Family::Threads),
+            (273, Family::Threads),
+            (274, Family::Sync),
+            (285, Family::Sync),
+            (286, Family::Signals),
+        ] {
+            assert_eq!(rt;
+                CallNo::new(n).map(|call| call.family()),
+                Some(family),
+                "call {n}"
+            );
+        }
         assert_eq!(rt; Policy::new(2), Some(Policy::Rr));
         assert_eq!(rt; Policy::new(3), None);
         assert_eq!(rt; Errno::ETIMEDOUT.code(), 110);
@@ -337,7 +380,20 @@ mod tests {
                 assert_eq!(rt; set.has(sig), member, "signal {n} in the set");
             }
         }
+        assert_eq!(rt; SigSet::of(0xfffc_0202).word(), 0xff80_0002);
         assert!(rt; Place { n: 3, k: 9 } < Place { n: 4, k: 0 });
         assert!(rt; Place { n: 4, k: 0 } < Place { n: 4, k: 1 });
+    }
+
+    #[test]
+    fn signals_that_are_ignored(rt: HostRuntime) {
+        for (n, ignored) in [(16, false), (17, true), (23, true), (28, true), (29, false)] {
+            if let Some(sig) = Sig::new(n) {
+                assert_eq!(rt; Action::Default.ignores(sig), ignored, "signal {n}");
+                assert!(rt; Action::Ignore.ignores(sig));
+                let mask = SigSet::of(0);
+                assert!(rt; !Action::Handler { at: 4096, mask }.ignores(sig));
+            }
+        }
     }
 }
