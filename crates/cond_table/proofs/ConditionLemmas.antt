@@ -9,9 +9,10 @@ use Rattle.thread_base.specs.Orders.{without}
 use Rattle.thread_base.proofs.SearchLemmas.{any_none, in_range}
 use Rattle.thread_base.proofs.MapLemmas.{put_is, put_same, put_other, first_put, second_put, both_put}
 use Rattle.tid_list.specs.Waiting.{queue_of}
-use Rattle.cond_table.specs.ConditionMap.{Condition, Table, still_bound, condition_of, conditions, mutex_of, waiters_of, waiting, joined_by, left_by, is_mutex, condition_numbers, AreSound}
+use Rattle.thread_base.specs.Objects.{Condition, still_bound, cond_mutex, cond_waiters, entered, without_waiter, is_mutex, condition_numbers}
+use Rattle.cond_table.specs.ConditionMap.{Table, condition_of, conditions, waiting, AreSound}
 
-same_waiters : (o : Option ℕ) (ts : List ℕ) → (IsNone o → ts ≡ []) → waiters_of (condition_of o ts) ≡ ts
+same_waiters : (o : Option ℕ) (ts : List ℕ) → (IsNone o → ts ≡ []) → cond_waiters (condition_of o ts) ≡ ts
 same_waiters None ts h = sym (h refl)
 same_waiters (Some m) ts h = refl
 
@@ -19,22 +20,22 @@ same_exists : (o : Option ℕ) (ts : List ℕ) → is_some (condition_of o ts) �
 same_exists None ts = refl
 same_exists (Some m) ts = refl
 
-empty_mutex : (o : Option ℕ) (ts : List ℕ) → ts ≡ [] → mutex_of (condition_of o ts) ≡ None
+empty_mutex : (o : Option ℕ) (ts : List ℕ) → ts ≡ [] → cond_mutex (condition_of o ts) ≡ None
 empty_mutex None ts e = refl
 empty_mutex (Some m) ts e = ap (still_bound (Some m)) e
 
-some_mutex : (o : Option ℕ) (ts : List ℕ) → (ts ≡ [] → ⊥) → mutex_of (condition_of o ts) ≡ o
+some_mutex : (o : Option ℕ) (ts : List ℕ) → (ts ≡ [] → ⊥) → cond_mutex (condition_of o ts) ≡ o
 some_mutex None ts some = refl
 some_mutex (Some m) [] some = absurd (some refl)
 some_mutex (Some m) (t ∷ ts) some = refl
 
-joined : (o : Option ℕ) (ts : List ℕ) (t m : ℕ) → IsSome o → ForSome (mutex_of (condition_of o ts)) (λ n. n ≡ m)
-    → condition_of (Some m) (ts ++ t ∷ []) ≡ joined_by t m (condition_of o ts)
+joined : (o : Option ℕ) (ts : List ℕ) (t m : ℕ) → IsSome o → ForSome (cond_mutex (condition_of o ts)) (λ n. n ≡ m)
+    → condition_of (Some m) (ts ++ t ∷ []) ≡ entered t m (condition_of o ts)
 joined None ts t m some bound = absurd (let e : false ≡ true = some in cc)
 joined (Some n) [] t m some bound = refl
-joined (Some n) (u ∷ us) t m some bound = ap (λ k. Some (record { mutex = Some k; waiters = u ∷ us ++ t ∷ [] })) (sym (bound n refl))
+joined (Some n) (u ∷ us) t m some bound = refl
 
-left : (o : Option ℕ) (ts : List ℕ) (t : ℕ) → condition_of o (without t ts) ≡ left_by t (condition_of o ts)
+left : (o : Option ℕ) (ts : List ℕ) (t : ℕ) → condition_of o (without t ts) ≡ without_waiter t (condition_of o ts)
 left None ts t = refl
 left (Some m) [] t = refl
 left (Some m) (u ∷ us) t = refl
@@ -69,11 +70,11 @@ module _ (mutexes : List (Option ℕ)) (queues : List (List ℕ)) where
   place_read c x read within some = ap is_some (read ∙ get_or_default mutexes c x None within) ∙ has_place c some
 
   -- the mutex of a condition with waiters and without
-  pub mutex_read : (c : ℕ) (x : Option ℕ) → x ≡ get_or mutexes c x → c < length mutexes → (queue_of queues c ≡ [] → ⊥) → x ≡ mutex_of (conditions (record { mutexes = mutexes; queues = queues }) c)
+  pub mutex_read : (c : ℕ) (x : Option ℕ) → x ≡ get_or mutexes c x → c < length mutexes → (queue_of queues c ≡ [] → ⊥) → x ≡ cond_mutex (conditions (record { mutexes = mutexes; queues = queues }) c)
   unfolding conditions
   mutex_read c x read within some = read ∙ get_or_default mutexes c x None within ∙ sym (some_mutex (get_or mutexes c None) (queue_of queues c) some)
 
-  pub no_mutex : (c : ℕ) → queue_of queues c ≡ [] → None ≡ mutex_of (conditions (record { mutexes = mutexes; queues = queues }) c)
+  pub no_mutex : (c : ℕ) → queue_of queues c ≡ [] → None ≡ cond_mutex (conditions (record { mutexes = mutexes; queues = queues }) c)
   unfolding conditions
   no_mutex c empty = sym (empty_mutex (get_or mutexes c None) (queue_of queues c) empty)
 
@@ -87,10 +88,10 @@ module _ (mutexes : List (Option ℕ)) (queues : List (List ℕ)) where
 
   -- one place was written, and a thread put behind its waiters
   pub joined_set : (others : List (List ℕ)) (c t m : ℕ) → IsSome (conditions (record { mutexes = mutexes; queues = queues }) c)
-      → ForSome (mutex_of (conditions (record { mutexes = mutexes; queues = queues }) c)) (λ n. n ≡ m)
+      → ForSome (cond_mutex (conditions (record { mutexes = mutexes; queues = queues }) c)) (λ n. n ≡ m)
       → c < length mutexes → queue_of others ≡ put (queue_of queues) c (queue_of queues c ++ t ∷ [])
       → conditions (record { mutexes = set mutexes c (Some m); queues = others })
-      ≡ put (conditions (record { mutexes = mutexes; queues = queues })) c (joined_by t m (conditions (record { mutexes = mutexes; queues = queues }) c))
+      ≡ put (conditions (record { mutexes = mutexes; queues = queues })) c (entered t m (conditions (record { mutexes = mutexes; queues = queues }) c))
   unfolding conditions
   joined_set others c t m some bound within e =
       let places : (λ k. get_or (set mutexes c (Some m)) k None) ≡ put (λ k. get_or mutexes k None) c (Some m) =
@@ -103,7 +104,7 @@ module _ (mutexes : List (Option ℕ)) (queues : List (List ℕ)) where
   -- a thread was taken out of the waiters of one number
   pub left_set : (others : List (List ℕ)) (c t : ℕ) → queue_of others ≡ put (queue_of queues) c (without t (queue_of queues c))
       → conditions (record { mutexes = mutexes; queues = others })
-      ≡ put (conditions (record { mutexes = mutexes; queues = queues })) c (left_by t (conditions (record { mutexes = mutexes; queues = queues }) c))
+      ≡ put (conditions (record { mutexes = mutexes; queues = queues })) c (without_waiter t (conditions (record { mutexes = mutexes; queues = queues }) c))
   unfolding conditions
   left_set others c t e =
       ap (λ f k. condition_of (get_or mutexes k None) (f k)) e
@@ -190,17 +191,17 @@ is_found : (m : ℕ) (o : Option ℕ) → o ≡ Some m → is_mutex m o ≡ true
 is_found m o e = ap (is_mutex m) e ∙ eq-eqb m m refl
 
 -- a search of the numbers finds each condition that waiters use with a mutex, where none has a number beyond
-pub uses_found : (map : ℕ → Option Condition) (m : ℕ) → ((c : ℕ) → 256 ≤ c → map c ≡ None) → (b : Bool) → b ≡ list_any (λ c. is_mutex m (mutex_of (map c))) condition_numbers
-    → (b ≡ true → (c : ℕ) × (mutex_of (map c) ≡ Some m)) × ((c : ℕ) × (mutex_of (map c) ≡ Some m) → b ≡ true)
+pub uses_found : (map : ℕ → Option Condition) (m : ℕ) → ((c : ℕ) → 256 ≤ c → map c ≡ None) → (b : Bool) → b ≡ list_any (λ c. is_mutex m (cond_mutex (map c))) condition_numbers
+    → (b ≡ true → (c : ℕ) × (cond_mutex (map c) ≡ Some m)) × ((c : ℕ) × (cond_mutex (map c) ≡ Some m) → b ≡ true)
 unfolding condition_numbers
 uses_found map m beyond b e = (
-  λ passes. (let found_at = found (λ c. is_mutex m (mutex_of (map c))) condition_numbers (sym e ∙ passes) in (found_at.0, mutex_found m (mutex_of (map found_at.0)) found_at.1)),
+  λ passes. (let found_at = found (λ c. is_mutex m (cond_mutex (map c))) condition_numbers (sym e ∙ passes) in (found_at.0, mutex_found m (cond_mutex (map found_at.0)) found_at.1)),
   λ some. elim (cases_Bool b) [
     | inl passes ↦ passes
     | inr fails ↦ elim (cases_lt some.0 256) [
       | inl low ↦
-          absurd (let f : true ≡ false = sym (is_found m (mutex_of (map some.0)) some.1) ∙ any_none (λ c. is_mutex m (mutex_of (map c))) condition_numbers some.0 (sym e ∙ fails) (in_range 0 256 some.0 (omega arith) (omega arith)) in cc)
-      | inr high ↦ absurd (let f : None ≡ Some m = sym (ap mutex_of (beyond some.0 high)) ∙ some.1 in cc)
+          absurd (let f : true ≡ false = sym (is_found m (cond_mutex (map some.0)) some.1) ∙ any_none (λ c. is_mutex m (cond_mutex (map c))) condition_numbers some.0 (sym e ∙ fails) (in_range 0 256 some.0 (omega arith) (omega arith)) in cc)
+      | inr high ↦ absurd (let f : None ≡ Some m = sym (ap cond_mutex (beyond some.0 high)) ∙ some.1 in cc)
     ]
   ],
 )

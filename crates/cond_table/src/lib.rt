@@ -11,7 +11,8 @@ ghost use Rattle.thread_base.specs.Maps.{put, numbered};
 ghost use Rattle.thread_base.specs.Orders.{is_in};
 ghost use Rattle.thread_base.specs.Priority.{first_greatest};
 ghost use Rattle.tid_list.specs.Waiting.{StandsInNone, StandsInOne, AreApart};
-ghost use Rattle.cond_table.specs.ConditionMap.{conditions, mutex_of, waiters_of, waiting, new_condition, joined_by, left_by, is_mutex, condition_numbers};
+ghost use Rattle.thread_base.specs.Objects.{cond_mutex, cond_waiters, new_condition, entered, without_waiter, is_mutex, condition_numbers};
+ghost use Rattle.cond_table.specs.ConditionMap.{conditions, waiting};
 
 use std::alloc::Global;
 use std::marker::Model;
@@ -71,7 +72,7 @@ impl Conds {
     /// Takes a condition away for which nobody waits.
     pub fn destroy(&mut self, c: u32)
         requires exists { IsSome (conditions self.old c) }
-        requires idle { waiters_of (conditions self.old c) ≡ [] }
+        requires idle { cond_waiters (conditions self.old c) ≡ [] }
         ensures { conditions self.new ≡ put (conditions self.old) c None }
     {
         self.mutexes[c as usize] = None;
@@ -80,8 +81,8 @@ impl Conds {
     /// The mutex with which the waiters of a condition wait; None exactly where nobody waits.
     pub fn bound_mutex(&self, c: u32) -> Option<u32>
         requires { IsSome (conditions self.now c) }
-        ensures mutex { result ≡ mutex_of (conditions self.now c) }
-        ensures empty { IsNone result ↔ (waiters_of (conditions self.now c) ≡ []) }
+        ensures mutex { result ≡ cond_mutex (conditions self.now c) }
+        ensures empty { IsNone result ↔ (cond_waiters (conditions self.now c) ≡ []) }
     {
         if self.waiters.threads(c).is_empty() {
             None
@@ -95,8 +96,8 @@ impl Conds {
     pub fn wait(&mut self, c: u32, t: Tid, m: u32)
         requires exists { IsSome (conditions self.old c) }
         requires free { StandsInNone t (waiting (conditions self.old)) }
-        requires bound { ForSome (mutex_of (conditions self.old c)) (λ n. n ≡ m) }
-        ensures conditions { conditions self.new ≡ put (conditions self.old) c (joined_by t m (conditions self.old c)) }
+        requires bound { ForSome (cond_mutex (conditions self.old c)) (λ n. n ≡ m) }
+        ensures conditions { conditions self.new ≡ put (conditions self.old) c (entered t m (conditions self.old c)) }
         ensures apart { AreApart (waiting (conditions self.new)) }
     {
         self.mutexes[c as usize] = Some(m);
@@ -107,9 +108,9 @@ impl Conds {
     /// thread t; None exactly where nobody waits.
     pub fn best(&self, c: u32, eff: &[u8; 64]) -> Option<Tid>
         requires { IsSome (conditions self.now c) }
-        ensures first { result ≡ first_greatest (numbered 0 eff.now) (waiters_of (conditions self.now c)) }
-        ensures empty { IsNone result ↔ (waiters_of (conditions self.now c) ≡ []) }
-        ensures member { IfSome result (λ t. is_in t (waiters_of (conditions self.now c)) ≡ true) }
+        ensures first { result ≡ first_greatest (numbered 0 eff.now) (cond_waiters (conditions self.now c)) }
+        ensures empty { IsNone result ↔ (cond_waiters (conditions self.now c) ≡ []) }
+        ensures member { IfSome result (λ t. is_in t (cond_waiters (conditions self.now c)) ≡ true) }
     {
         self.waiters.best(c, eff)
     }
@@ -118,7 +119,7 @@ impl Conds {
     pub fn remove(&mut self, t: Tid)
         requires { StandsInOne t (waiting (conditions self.old)) }
         ensures conditions { (c : ℕ) → is_in t (waiting (conditions self.old) c) ≡ true
-            → conditions self.new ≡ put (conditions self.old) c (left_by t (conditions self.old c)) }
+            → conditions self.new ≡ put (conditions self.old) c (without_waiter t (conditions self.old c)) }
         ensures apart { AreApart (waiting (conditions self.new)) }
     {
         self.waiters.remove(t);
@@ -126,7 +127,7 @@ impl Conds {
 
     /// Whether a thread waits for some condition with this mutex.
     pub fn uses(&self, m: u32) -> bool
-        ensures { IsTrue result ↔ ((c : ℕ) × (mutex_of (conditions self.now c) ≡ Some m)) }
+        ensures { IsTrue result ↔ ((c : ℕ) × (cond_mutex (conditions self.now c) ≡ Some m)) }
     {
         // No condition has a number beyond the table.
         let _places = &self.mutexes;
@@ -136,7 +137,7 @@ impl Conds {
     /// The threads that wait for a condition, in order of arrival.
     pub fn waiters(&self, c: u32) -> &[Tid]
         requires { IsSome (conditions self.now c) }
-        ensures queue { result.now ≡ waiters_of (conditions self.now c) }
+        ensures queue { result.now ≡ cond_waiters (conditions self.now c) }
         ensures apart { AreApart (waiting (conditions self.now)) }
     {
         self.waiters.threads(c)
@@ -152,15 +153,15 @@ impl Conds {
 
     /// Whether a condition has waiters, and they wait with this mutex.
     fn is_bound(&self, c: u32, m: u32) -> bool
-        ensures { result ≡ is_mutex m (mutex_of (conditions self.now c)) }
+        ensures { result ≡ is_mutex m (cond_mutex (conditions self.now c)) }
     {
         self.exists(c) && self.bound_mutex(c) == Some(m)
     }
 
     /// Whether some condition of the table has waiters that wait with this mutex.
-    #[tactic(auto, unfolding(crate::specs::ConditionMap::condition_numbers))]
+    #[tactic(auto, unfolding(thread_base::specs::Objects::condition_numbers))]
     fn some_uses(&self, m: u32) -> bool
-        ensures { result ≡ list_any (λ c. is_mutex m (mutex_of (conditions self.now c))) condition_numbers }
+        ensures { result ≡ list_any (λ c. is_mutex m (cond_mutex (conditions self.now c))) condition_numbers }
     {
         (0..256u32).any(|c| self.is_bound(c, m))
     }

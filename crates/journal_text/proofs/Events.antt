@@ -1,12 +1,13 @@
 -- The events of lines of the four forms.
-use Rattle.std.proofs.Common.{◌≡◌, ℕ, ◌/◌, ◌⊎◌, inl, inr, true, ◌||◌, List, [], ◌++◌, length, drop, refl, ap, ◌∙◌, arith, codes, nat_eq}
+use Rattle.std.proofs.Common.{◌≡◌, ℕ, ◌/◌, inl, inr, true, List, [], ◌++◌, length, drop, refl, ap, ◌∙◌, arith, codes, nat_eq}
 use Rattle.std.proofs.lemmas.Bool.{and_parts, or_cases, eqb-true}
 use Rattle.std.proofs.lemmas.Bool.Decides.{Decides-eqb}
 use Rattle.std.proofs.lemmas.Slice.Eq.{starts_is}
+use Rattle.std.proofs.lemmas.Grind.{common_steps}
 use Rattle.std.specs.List.{starts_with}
-use Rattle.std.proofs.Math.ListN.{drop_of_length-le}
 use Rattle.journal_text.specs.declared.entry.What.TheVariants.{Sig, Tick, Data, Eof}
 use Rattle.journal_text.specs.Lines.{number, is_digits, is_hex, hex_bytes, is_sig, is_tick, is_data, is_end, what_of, data_of}
+use Rattle.journal_text.proofs.Parts.{is_event}
 
 -- an event of one of the four forms, what it is and what bytes it brings
 pub data IsForm (start : ℕ) (event : List ℕ) : Type 0 where
@@ -21,23 +22,21 @@ pub data IsForm (start : ℕ) (event : List ℕ) : Type 0 where
 pub begins : (s p : List ℕ) → starts_with nat_eq s p ≡ true → s ≡ p ++ drop (length p) s
 begins s p h = (starts_is Decides-eqb s p (starts_with nat_eq s p) refl).0 h
 
-none_left : (n : ℕ) (s : List ℕ) → length s ≡ n → drop n s ≡ []
-none_left n s h = drop_of_length-le s (omega arith)
+begins_whole : (s p : List ℕ) → starts_with nat_eq s p ≡ true → length s ≡ length p → s ≡ p
+begins_whole s p h e = begins s p h ∙ grind (arith, common_steps)
 
-pub is_form_of_tick : (start : ℕ) (event : List ℕ) → is_tick event ≡ true → IsForm start event
+is_form_of_tick : (start : ℕ) (event : List ℕ) → is_tick event ≡ true → IsForm start event
 unfolding what_of data_of
 is_form_of_tick start event h =
     let parts = and_parts (starts_with nat_eq event (codes "tick")) _ h in
-    let rest = none_left 4 event (eqb-true _ _ parts.1) in
-    let e : event ≡ codes "tick" = begins event (codes "tick") parts.0 ∙ ap (λ x. codes "tick" ++ x) rest in
+    let e = begins_whole event (codes "tick") parts.0 (eqb-true _ _ parts.1) in
     tick e (ap (what_of start) e) (ap data_of e)
 
-pub is_form_of_eof : (start : ℕ) (event : List ℕ) → is_end event ≡ true → IsForm start event
+is_form_of_eof : (start : ℕ) (event : List ℕ) → is_end event ≡ true → IsForm start event
 unfolding what_of data_of
 is_form_of_eof start event h =
     let parts = and_parts (starts_with nat_eq event (codes "eof")) _ h in
-    let rest = none_left 3 event (eqb-true _ _ parts.1) in
-    let e : event ≡ codes "eof" = begins event (codes "eof") parts.0 ∙ ap (λ x. codes "eof" ++ x) rest in
+    let e = begins_whole event (codes "eof") parts.0 (eqb-true _ _ parts.1) in
     eof e (ap (what_of start) e) (ap data_of e)
 
 -- an event of a signal and of data
@@ -51,7 +50,7 @@ pub what_of-data : (start : ℕ) (ds : List ℕ) → is_hex ds ≡ true
 unfolding what_of data_of
 what_of-data start ds h = (refl, rw h refl)
 
-pub is_form_of_sig : (start : ℕ) (event : List ℕ) → is_sig event ≡ true → IsForm start event
+is_form_of_sig : (start : ℕ) (event : List ℕ) → is_sig event ≡ true → IsForm start event
 is_form_of_sig start event h =
     let parts = and_parts (starts_with nat_eq event (codes "sig ")) _ h in
     let ds = drop 4 event in
@@ -59,7 +58,7 @@ is_form_of_sig start event h =
     let is = what_of-sig start ds parts.1 in
     sig ds e parts.1 (ap (what_of start) e ∙ is.0) (ap data_of e ∙ is.1)
 
-pub is_form_of_data : (start : ℕ) (event : List ℕ) → is_data event ≡ true → IsForm start event
+is_form_of_data : (start : ℕ) (event : List ℕ) → is_data event ≡ true → IsForm start event
 is_form_of_data start event h =
     let parts = and_parts (starts_with nat_eq event (codes "data ")) _ h in
     let ds = drop 5 event in
@@ -68,21 +67,15 @@ is_form_of_data start event h =
     bytes ds e parts.1 (ap (what_of start) e ∙ is.0) (ap data_of e ∙ is.1)
 
 -- the one of the four forms
-pub is_form_by : (start : ℕ) (event : List ℕ)
-    → (is_tick event || (is_end event || (is_sig event || is_data event))) ≡ true → IsForm start event
-is_form_by start event h = first start event (or_cases _ _ h)
-  where
-    third : (start : ℕ) (event : List ℕ) → ((is_sig event ≡ true) ⊎ (is_data event ≡ true)) → IsForm start event
-    third start event (inl h) = is_form_of_sig start event h
-    third start event (inr h) = is_form_of_data start event h
-
-    second : (start : ℕ) (event : List ℕ) → ((is_end event ≡ true) ⊎ ((is_sig event || is_data event) ≡ true))
-        → IsForm start event
-    second start event (inl h) = is_form_of_eof start event h
-    second start event (inr h) = third start event (or_cases _ _ h)
-
-    first : (start : ℕ) (event : List ℕ)
-        → ((is_tick event ≡ true) ⊎ ((is_end event || (is_sig event || is_data event)) ≡ true))
-        → IsForm start event
-    first start event (inl h) = is_form_of_tick start event h
-    first start event (inr h) = second start event (or_cases _ _ h)
+pub is_form_by : (start : ℕ) (event : List ℕ) → is_event event ≡ true → IsForm start event
+is_form_by start event h =
+    elim (or_cases (is_tick event) _ h) [
+      | inl a ↦ is_form_of_tick start event a
+      | inr h ↦ elim (or_cases (is_end event) _ h) [
+        | inl b ↦ is_form_of_eof start event b
+        | inr h ↦ elim (or_cases (is_sig event) _ h) [
+          | inl c ↦ is_form_of_sig start event c
+          | inr d ↦ is_form_of_data start event d
+        ]
+      ]
+    ]

@@ -1,20 +1,19 @@
 -- Entries, one behind another.
-use Rattle.std.proofs.Common.{◌≡◌, ℕ, ◌+◌, ◌≤◌, List, [], ◌∷◌, ◌++◌, length, take, drop, refl, sym, ap, subst, arith, append_assoc, append-nil, length-drop, codes}
-use Rattle.std.proofs.lemmas.List.{take-append-le, drop-append-le}
+use Rattle.std.proofs.Common.{◌≡◌, ℕ, ◌+◌, ◌≤◌, List, [], ◌∷◌, ◌++◌, length, take, drop, refl, arith, append_assoc, append-nil}
+use Rattle.std.proofs.lemmas.Grind.{common_steps}
 use Rattle.std.specs.List.{flat_map}
 use Rattle.journal_text.specs.declared.entry.What.{What}
-use Rattle.journal_text.specs.declared.entry.What.TheVariants.{Sig, Tick, Data, Eof}
 use Rattle.journal_text.specs.declared.entry.Entry.{Entry}
 use Rattle.journal_text.specs.Contents.{data_len, total_len, IsInside, AreInside}
-use Rattle.journal_text.specs.Spelling.{event_text, entry_line, hex}
+use Rattle.journal_text.specs.Spelling.{event_text, entry_line}
 use Rattle.journal_text.specs.Valid.{IsEvent, MayFollow, EachFollows}
 
 -- an entry more at the end
 pub EachFollows-push : (before es : List Entry) (e : Entry) → EachFollows before es
     → MayFollow (before ++ es) e → EachFollows before (es ++ e ∷ [])
-EachFollows-push before [] e each may = (subst (λ b. MayFollow b e) (append-nil before) may, tt)
+EachFollows-push before [] e each may = (rw append-nil at may, tt)
 EachFollows-push before (x ∷ es) e each may =
-    (each.0, EachFollows-push (before ++ x ∷ []) es e each.1 (subst (λ b. MayFollow b e) (sym (append_assoc before (x ∷ []) es)) may))
+    (each.0, EachFollows-push (before ++ x ∷ []) es e each.1 (rw append_assoc may))
 
 pub total_len-append : (xs ys : List Entry) → total_len (xs ++ ys) ≡ total_len xs + total_len ys
 total_len-append [] ys = omega arith
@@ -23,18 +22,11 @@ total_len-append (x ∷ xs) ys = omega (arith, total_len-append xs ys)
 -- a part of some bytes stays where bytes are added at the end
 part-append : (start len : ℕ) (bytes more : List ℕ) → start + len ≤ length bytes
     → take len (drop start (bytes ++ more)) ≡ take len (drop start bytes)
-part-append start len bytes more inside =
-    let low : start ≤ length bytes = omega arith in
-    let high : len ≤ length (drop start bytes) = omega (arith, length-drop start bytes) in
-    rw (drop-append-le start bytes more low) (take-append-le len (drop start bytes) more high)
+part-append start len bytes more inside = grind (arith, common_steps)
 
 event_text-append : (before : List Entry) (w : What) (bytes more : List ℕ) → IsEvent before w
     → total_len before + data_len w ≤ length bytes → event_text (bytes ++ more) w ≡ event_text bytes w
-event_text-append before (Sig s) bytes more is inside = refl
-event_text-append before Tick bytes more is inside = refl
-event_text-append before (Data start len) bytes more is inside =
-    ap (λ part. codes "data " ++ hex part) (part-append start len bytes more (omega (arith, is.0)))
-event_text-append before Eof bytes more is inside = refl
+event_text-append before w bytes more is inside = grind (arith, part-append)
 
 -- the lines of entries stay where bytes are added at the end
 pub lines-append : (before es : List Entry) (bytes more : List ℕ) → EachFollows before es
@@ -56,7 +48,4 @@ AreInside-from before (e ∷ es) count each room =
     (inside_of e.what each.0.event (omega arith), AreInside-from (before ++ e ∷ []) es count each.1 (omega (arith, next)))
   where
     inside_of : (w : What) → IsEvent before w → total_len before + data_len w ≤ count → IsInside count w
-    inside_of (Sig s) is room = tt
-    inside_of Tick is room = tt
-    inside_of (Data start len) is room = omega (arith, is.0)
-    inside_of Eof is room = tt
+    inside_of w is room = grind arith

@@ -1,10 +1,11 @@
 -- The four forms of a line.
 use Rattle.std.proofs.Common.{◌≡◌, ℕ, true, List, ap, ◌∙◌}
 use Rattle.std.proofs.lemmas.Bool.{and_parts, and_from, or_left}
-use Rattle.journal_text.specs.Lines.{parts_of, is_digits, is_form}
+use Rattle.journal_text.specs.Lines.{parts_of, is_form}
 use Rattle.journal_text.specs.Laws.{IsWrittenEvent, sig as sig_written, tick as tick_written, bytes as data_written, eof as eof_written, IsWrittenLine, FourForms}
+use Rattle.journal_text.proofs.Parts.{is_event, form_parts}
 use Rattle.journal_text.proofs.Events.{IsForm, tick, eof, sig, bytes, is_form_by}
-use Rattle.journal_text.proofs.SpelledLaw.{written_back, is_event}
+use Rattle.journal_text.proofs.SpelledLaw.{written_back}
 use Rattle.journal_text.proofs.ReadAgainLaw.{parts_of-line}
 
 event_written : (event : List ℕ) → IsForm 0 event → IsWrittenEvent event
@@ -22,15 +23,14 @@ event_tested event (eof_written e) = ap is_event e
 line_written : (text : List ℕ) → is_form (parts_of text) ≡ true → IsWrittenLine text
 line_written text form =
     let p = parts_of text in
-    let first = and_parts (is_digits p.n) _ form in
-    let second = and_parts (is_digits p.k) _ first.1 in
+    let parts = form_parts p form in
     record {
       n = p.n;
       k = p.k;
       event = p.event;
-      n_digits = first.0;
-      k_digits = second.0;
-      form = event_written p.event (is_form_by 0 p.event second.1);
+      n_digits = parts.0;
+      k_digits = parts.1;
+      form = event_written p.event (is_form_by 0 p.event parts.2);
       whole = written_back text form;
     }
 

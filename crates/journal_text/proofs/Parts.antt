@@ -1,33 +1,16 @@
 -- What a line without a refusal is.
-use Rattle.std.proofs.Common.{◌≡◌, ◌≤◌, ◌||◌, ◌&&◌, not, Bool, true, false, drop, Option, None, refl, ltb, ltb-false}
+use Rattle.std.proofs.Common.{◌≡◌, ◌≤◌, ℕ, List, ◌||◌, ◌&&◌, not, Bool, true, false, drop, Option, None, refl, arith}
+use Rattle.std.proofs.lemmas.Bool.{or_parts}
+use Rattle.std.proofs.lemmas.Bool.Decides.{nat_tests}
 use Rattle.journal_text.specs.declared.refusal.JournalRefusal.{JournalRefusal}
 use Rattle.journal_text.specs.Contents.{Contents}
-use Rattle.journal_text.specs.Lines.{Parts, has_leading_zero, number, is_sig, is_form}
+use Rattle.journal_text.specs.Lines.{Parts, has_leading_zero, number, is_digits, is_sig, is_tick, is_data, is_end, is_form}
 use Rattle.journal_text.specs.Refusals.{when, ◌orelse◌, parts_refusal, is_bad_number, is_bad_signal, is_out_of_order, is_after_eof, is_full}
-
--- neither of two
-pub or_false : (a b : Bool) → (a || b) ≡ false → (a ≡ false) × (b ≡ false)
-or_false true b h = cc
-or_false false b h = (refl, h)
-
--- both of two
-pub and_true : (a b : Bool) → (a && b) ≡ true → (a ≡ true) × (b ≡ true)
-and_true true b h = (refl, h)
-and_true false b h = cc
 
 -- no condition holds, and nothing is behind it
 pub when_none : (b : Bool) (r : JournalRefusal) (more : Option JournalRefusal) → (when b r orelse more) ≡ None
     → (b ≡ false) × (more ≡ None)
-when_none true r more h = cc
-when_none false r more h = (refl, h)
-
-when_last : (b : Bool) (r : JournalRefusal) → when b r ≡ None → b ≡ false
-when_last true r h = cc
-when_last false r h = refl
-
-not_false : (b : Bool) → not b ≡ false → b ≡ true
-not_false true h = refl
-not_false false h = cc
+when_none b r more h = grind arith
 
 -- a line behind a journal is of one of the four forms, and nothing is bad in it
 pub record IsGood (j : Contents) (p : Parts) : Type 0 where
@@ -38,15 +21,32 @@ pub record IsGood (j : Contents) (p : Parts) : Type 0 where
   pub input : is_after_eof j p ≡ false
   pub few : is_full j ≡ false
 
+-- where there is no refusal, no condition of six holds
+none_of : (a b c d e f : Bool) (q r s t u v : JournalRefusal)
+    → ((when (not a) q orelse when b r orelse when c s orelse when d t orelse when e u orelse when f v) ≡ None)
+    → (a ≡ true) × (b ≡ false) × (c ≡ false) × (d ≡ false) × (e ≡ false) × (f ≡ false)
+none_of a b c d e f q r s t u v h = grind arith
+
 pub good_parts : (j : Contents) (p : Parts) → parts_refusal j p ≡ None → IsGood j p
 unfolding parts_refusal
 good_parts j p h =
-    let a = when_none (not (is_form p)) _ _ h in
-    let b = when_none (is_bad_number p) _ _ a.1 in
-    let c = when_none (is_bad_signal p) _ _ b.1 in
-    let d = when_none (is_out_of_order j p) _ _ c.1 in
-    let e = when_none (is_after_eof j p) _ _ d.1 in
-    record { form = not_false _ a.0; number = b.0; signal = c.0; order = d.0; input = e.0; few = when_last _ _ e.1 }
+    let all = none_of _ _ _ _ _ _ _ _ _ _ _ _ h in
+    record { form = all.0; number = all.1; signal = all.2; order = all.3; input = all.4; few = all.5 }
+
+pub parts_none : (j : Contents) (p : Parts) → IsGood j p → parts_refusal j p ≡ None
+unfolding parts_refusal
+parts_none j p good = rw (good.form, good.number, good.signal, good.order, good.input, good.few) refl
+
+-- the parts of a line of one of the four forms
+abbrev pub is_event : List ℕ → Bool
+is_event event = is_tick event || (is_end event || (is_sig event || is_data event))
+
+pub form_parts : (p : Parts) → is_form p ≡ true
+    → (is_digits p.n ≡ true) × (is_digits p.k ≡ true) × (is_event p.event ≡ true)
+form_parts p h = all_of _ _ _ h
+  where
+    all_of : (a b c : Bool) → (a && (b && c)) ≡ true → (a ≡ true) × (b ≡ true) × (c ≡ true)
+    all_of a b c h = grind arith
 
 -- what the numbers of a place are
 pub record AreNumbers (p : Parts) : Type 0 where
@@ -57,13 +57,7 @@ pub record AreNumbers (p : Parts) : Type 0 where
   pub k : number p.k ≤ 1000000
 
 pub and_second : (a b : Bool) → (a && b) ≡ false → a ≡ true → b ≡ false
-and_second true b h e = h
-and_second false b h e = cc
+and_second a b h e = grind arith
 
 pub are_numbers : (p : Parts) → is_bad_number p ≡ false → AreNumbers p
-are_numbers p h =
-    let a = or_false (has_leading_zero p.n) _ h in
-    let b = or_false (has_leading_zero p.k) _ a.1 in
-    let c = or_false (is_sig p.event && has_leading_zero (drop 4 p.event)) _ b.1 in
-    let d = or_false (ltb 1000000000 (number p.n)) _ c.1 in
-    record { n_plain = a.0; k_plain = b.0; sig_plain = and_second _ _ c.0; n = ltb-false _ _ d.0; k = ltb-false _ _ d.1 }
+are_numbers p h = grind (arith, nat_tests, or_parts)

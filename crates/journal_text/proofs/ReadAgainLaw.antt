@@ -1,6 +1,7 @@
 -- What is spelled is read again.
-use Rattle.std.proofs.Common.{◌≡◌, ℕ, ◌+◌, ◌/◌, ◌<◌, ◌≤◌, ◌^◌, ◌⊎◌, inl, inr, Bool, true, false, not, ◌&&◌, ◌||◌, leb, List, [], ◌∷◌, ◌++◌, length, take, drop, refl, sym, ap, ◌∙◌, arith, decimal, lit<, append_assoc, append-nil, length-append, length-drop, None}
-use Rattle.std.proofs.lemmas.Bool.{and_parts, and_from, or_from, or_left, or_cases, leb-true, not_from_true, not_from_false, le-ltb, lt-leb, ne_eqb, cases_Bool, and_left, and_right}
+use Rattle.std.proofs.Common.{◌≡◌, ℕ, ◌+◌, ◌/◌, ◌<◌, ◌≤◌, ◌^◌, Bool, true, false, not, ◌&&◌, List, [], ◌∷◌, ◌++◌, length, take, drop, refl, sym, ap, ◌∙◌, arith, decimal, lit<, append_assoc, append-nil, length-append, length-drop, None}
+use Rattle.std.proofs.lemmas.Bool.{and_from, or_from, or_left, not_from_true, le-ltb, lt-leb, and_right}
+use Rattle.std.proofs.lemmas.Bool.Decides.{nat_tests}
 use Rattle.std.proofs.lemmas.List.{length-take-le}
 use Rattle.std.proofs.lemmas.List.Folds.{list_all-append}
 use Rattle.std.proofs.Math.Seq.{take-length, take-add}
@@ -9,15 +10,14 @@ use Rattle.std.specs.List.{list_all, flat_map}
 use Rattle.journal_text.specs.declared.entry.What.{What}
 use Rattle.journal_text.specs.declared.entry.What.TheVariants.{Sig, Tick, Data, Eof}
 use Rattle.journal_text.specs.declared.entry.Entry.{Entry}
-use Rattle.journal_text.specs.declared.refusal.JournalRefusal.{JournalRefusal}
-use Rattle.journal_text.specs.Contents.{Contents, is_input, has_eof, data_len, total_len}
+use Rattle.journal_text.specs.Contents.{Contents, is_input, data_len, total_len}
 use Rattle.journal_text.specs.Spelling.{event_text, entry_text, entry_line, spell, hex}
-use Rattle.journal_text.specs.Lines.{Line, lines, Parts, parts_of, number, is_hex_digit, has_leading_zero, is_sig, is_tick, is_data, is_end, is_form, what_of, data_of}
+use Rattle.journal_text.specs.Lines.{Line, lines, parts_of, number, is_hex_digit, has_leading_zero, is_sig, what_of, data_of}
 use Rattle.thread_base.specs.Numbers.{is_in_scope}
-use Rattle.journal_text.specs.Refusals.{when, ◌orelse◌, parts_refusal, is_bad_number, is_bad_signal, is_out_of_order, is_after_eof, is_full, with_parts, with_line, with_lines, first_bad_line, first_bad, entries_of}
+use Rattle.journal_text.specs.Refusals.{◌orelse◌, parts_refusal, with_parts, with_line, with_lines, first_bad_line, first_bad, entries_of}
 use Rattle.journal_text.specs.Valid.{IsEvent, MayFollow, EachFollows, IsJournal}
 use Rattle.journal_text.proofs.Digits.{decimal_is_written, AreBytes, AreBytes-drop, AreBytes-take, hex_bytes-hex, hex_digits, length-hex, is_hex-hex}
-use Rattle.journal_text.proofs.Parts.{IsGood}
+use Rattle.journal_text.proofs.Parts.{is_event, IsGood, parts_none}
 use Rattle.journal_text.proofs.Cuts.{differs, cut_here, lines_here}
 use Rattle.journal_text.proofs.Events.{what_of-sig, what_of-data}
 use Rattle.journal_text.proofs.Follows.{total_len-append}
@@ -26,30 +26,21 @@ use Rattle.journal_text.proofs.Follows.{total_len-append}
 pub list_all-weaker : (p q : ℕ → Bool) → ((b : ℕ) → p b ≡ true → q b ≡ true) → (xs : List ℕ)
     → list_all p xs ≡ true → list_all q xs ≡ true
 list_all-weaker p q h [] all = refl
-list_all-weaker p q h (x ∷ xs) all =
-    let parts = and_parts (p x) _ all in
-    and_from (q x) _ (h x parts.0) (list_all-weaker p q h xs parts.1)
+list_all-weaker p q h (x ∷ xs) all = grind (arith, h x, list_all-weaker p q h xs)
 
 -- a digit differs from a byte below the digits
 digit_differs : (c : ℕ) → c < 48 → (b : ℕ) → is_ascii_digit b ≡ true → differs c b ≡ true
-digit_differs c low b h =
-    let parts = and_parts (leb 48 b) (leb b 57) h in
-    let least = leb-true _ _ parts.0 in
-    not_from_false _ (ne_eqb b c (λ e. omega arith))
+digit_differs c low b h = grind (arith, nat_tests)
 
 hex_differs : (c : ℕ) → c < 48 → (b : ℕ) → is_hex_digit b ≡ true → differs c b ≡ true
-hex_differs c low b h = not_from_false _ (ne_eqb b c (λ e. above b c low (or_cases _ _ h) e))
-  where
-    above : (b c : ℕ) → c < 48 → (((leb 48 b && leb b 57) ≡ true) ⊎ ((leb 97 b && leb b 102) ≡ true)) → b ≡ c → ⊥
-    above b c low (inl h) e = let least = leb-true _ _ (and_parts (leb 48 b) _ h).0 in omega arith
-    above b c low (inr h) e = let least = leb-true _ _ (and_parts (leb 97 b) _ h).0 in omega arith
+hex_differs c low b h = grind (arith, nat_tests)
 
 no_mark : (c n : ℕ) → c < 48 → n < 2 ^ 64 → list_all (differs c) (decimal n) ≡ true
 no_mark c n low small = list_all-weaker is_ascii_digit (differs c) (digit_differs c low) (decimal n) (decimal_is_written n small).each
 
 -- an event is read as it was
 pub record IsEventText (start : ℕ) (w : What) (event all : List ℕ) : Type 0 where
-  pub form : (is_tick event || (is_end event || (is_sig event || is_data event))) ≡ true
+  pub form : is_event event ≡ true
   pub plain : (is_sig event && has_leading_zero (drop 4 event)) ≡ false
   pub signal : (is_sig event && not (is_in_scope (number (drop 4 event)))) ≡ false
   pub what : what_of start event ≡ w
@@ -61,8 +52,7 @@ event_again : (before : List Entry) (w : What) (all : List ℕ) → IsEvent befo
     → total_len before + data_len w ≤ length all → IsEventText (total_len before) w (event_text all w) all
 unfolding what_of data_of
 event_again before (Sig s) all is small inside =
-    let most = leb-true _ _ (and_parts (leb s 31) _ (and_parts (leb 1 s) _ is).1).0 in
-    let fits : s < 2 ^ 64 = omega arith in
+    let fits = at_most s is in
     let ds = decimal s in
     let written = decimal_is_written s fits in
     let again = what_of-sig (total_len before) ds written.digits in
@@ -70,11 +60,14 @@ event_again before (Sig s) all is small inside =
       form = or_left _ _ written.digits;
       plain = and_right _ _ written.plain;
       signal = and_right _ _ (not_from_true _ (rw written.value is));
-      what = again.0 ∙ ap Sig written.value;
+      what = rw (again.0, written.value) refl;
       input = ap is_input (what_of-sig 0 ds written.digits).0;
       bytes = again.1;
       one_line = no_mark 10 s (lit< tt) fits;
     }
+  where
+    at_most : (s : ℕ) → is_in_scope s ≡ true → s < 2 ^ 64
+    at_most s h = grind (arith, nat_tests)
 event_again before Tick all is small inside = record { form = refl; plain = refl; signal = refl; what = refl; input = refl; bytes = refl; one_line = refl }
 event_again before (Data start len) all is small inside =
     let part = take len (drop start all) in
@@ -87,9 +80,9 @@ event_again before (Data start len) all is small inside =
       form = h;
       plain = refl;
       signal = refl;
-      what = again.0 ∙ ap (λ n. Data (total_len before) n) half ∙ ap (λ m. Data m len) (sym is.0);
+      what = rw (again.0, half, is.0) refl;
       input = ap is_input (what_of-data 0 (hex part) h).0;
-      bytes = again.1 ∙ hex_bytes-hex part small_part ∙ ap (λ m. take len (drop m all)) is.0;
+      bytes = rw (again.1, hex_bytes-hex part small_part, is.0) refl;
       one_line = list_all-weaker is_hex_digit (differs 10) (hex_differs 10 (lit< tt)) (hex part) (hex_digits part small_part);
     }
 event_again before Eof all is small inside = record { form = refl; plain = refl; signal = refl; what = refl; input = refl; bytes = refl; one_line = refl }
@@ -107,8 +100,7 @@ parts_of-line n k event n_digits k_digits =
 one_line : (n k : ℕ) (event : List ℕ) → n < 2 ^ 64 → k < 2 ^ 64 → list_all (differs 10) event ≡ true
     → list_all (differs 10) (decimal n ++ 46 ∷ decimal k ++ 32 ∷ event) ≡ true
 one_line n k event n_fits k_fits h =
-    rw (list_all-append (differs 10) (decimal n ++ 46 ∷ decimal k) (32 ∷ event), list_all-append (differs 10) (decimal n) (46 ∷ decimal k))
-    (and_from _ _ (and_from _ _ (no_mark 10 n (lit< tt) n_fits) (no_mark 10 k (lit< tt) k_fits)) h)
+    rw (list_all-append (differs 10), list_all-append (differs 10), no_mark 10 n (lit< tt) n_fits, no_mark 10 k (lit< tt) k_fits) h
 
 -- an entry may follow, so its line has no refusal
 good_again : (j : Contents) (e : Entry) (event all : List ℕ) → MayFollow j.entries e
@@ -124,25 +116,12 @@ good_again j e event all may few is =
       number = or_from _ _ n.plain (or_from _ _ k.plain (or_from _ _ is.plain (or_from _ _ n_low k_low)));
       signal = is.signal;
       order = rw (n.value, k.value) may.order;
-      input = no_input (cases_Bool (is_input e.what));
+      input = no_input _ _ _ is.input may.input;
       few = lt-leb 1000000 (length j.entries) few;
     }
   where
-    no_input : ((is_input e.what ≡ true) ⊎ (is_input e.what ≡ false))
-        → (is_input (what_of 0 event) && has_eof j.entries) ≡ false
-    no_input (inl h) = and_right _ _ (may.input h)
-    no_input (inr h) = and_left _ _ (is.input ∙ h)
-
-none_of : (a b c d e f : Bool) (q r s t u v : JournalRefusal) → a ≡ true → b ≡ false → c ≡ false → d ≡ false
-    → e ≡ false → f ≡ false
-    → (when (not a) q orelse when b r orelse when c s orelse when d t orelse when e u orelse when f v) ≡ None
-none_of a b c d e f q r s t u v ha hb hc hd he hf = rw (ha, hb, hc, hd, he, hf) refl
-
-parts_none : (j : Contents) (p : Parts) → IsGood j p → parts_refusal j p ≡ None
-unfolding parts_refusal
-parts_none j p good =
-    none_of (is_form p) (is_bad_number p) (is_bad_signal p) (is_out_of_order j p) (is_after_eof j p) (is_full j) _ _ _ _ _ _
-    good.form good.number good.signal good.order good.input good.few
+    no_input : (a b c : Bool) → a ≡ b → (b ≡ true → c ≡ false) → (a && c) ≡ false
+    no_input a b c same h = grind arith
 
 -- the journal of some entries, which take their part of all bytes
 so_far : List Entry → List ℕ → Contents

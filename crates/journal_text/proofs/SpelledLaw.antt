@@ -1,20 +1,22 @@
 -- What is read of a line is spelled so.
-use Rattle.std.proofs.Common.{◌≡◌, ℕ, ◌/◌, ◌%◌, ◌≤◌, inl, inr, Bool, true, false, cond, not, ◌||◌, eqb, ltb, leb, List, [], ◌∷◌, ◌++◌, length, take, drop, refl, sym, ap, ◌∙◌, subst, arith, decimal, lit≤, codes, nat_eq, append_assoc, append-nil, length-append, Option, None, Some}
-use Rattle.std.proofs.lemmas.Bool.{and_parts, eqb-true, leb-true, ltb-false, leb-false, le-ltb, not-false}
-use Rattle.std.specs.List.{starts_with, before_first, after_first, flat_map}
+use Rattle.std.proofs.Common.{◌≡◌, ℕ, ◌<◌, ◌^◌, ◌/◌, ◌%◌, ◌≤◌, Bool, true, false, cond, not, eqb, ltb, List, [], ◌∷◌, ◌++◌, length, take, drop, refl, sym, ap, ◌∙◌, subst, arith, lit≤, codes, nat_eq, append_assoc, append-nil, length-append, Option, None}
+use Rattle.std.proofs.lemmas.Bool.{ltb-false, leb-false, le-ltb, not-false}
+use Rattle.std.proofs.lemmas.Bool.Decides.{nat_tests}
+use Rattle.std.specs.List.{starts_with, list_all, before_first, after_first, flat_map}
 use Rattle.std.proofs.lemmas.Grind.{flat_map-append}
 use Rattle.std.proofs.Math.Seq.{take-length, drop-append_seam}
+use Rattle.journal_text.specs.declared.entry.What.{What}
 use Rattle.journal_text.specs.declared.entry.What.TheVariants.{Sig, Tick, Data, Eof}
 use Rattle.journal_text.specs.declared.entry.Entry.{Entry}
 use Rattle.journal_text.specs.declared.refusal.JournalRefusal.{JournalRefusal}
 use Rattle.journal_text.specs.Contents.{Contents, empty, is_input, data_len, total_len}
-use Rattle.journal_text.specs.Spelling.{header, event_text, entry_text, entry_line, spell, hex}
-use Rattle.journal_text.specs.Lines.{Line, lines, Parts, parts_of, parts_behind, number, is_digits, hex_bytes, has_leading_zero, is_sig, is_tick, is_data, is_end, is_form, what_of, data_of, entry_of}
+use Rattle.journal_text.specs.Spelling.{header, event_text, entry_text, spell}
+use Rattle.journal_text.specs.Lines.{is_hex, is_hex_digit, Line, lines, Parts, parts_of, parts_behind, number, is_digits, hex_bytes, has_leading_zero, is_sig, is_tick, is_end, is_form, what_of, data_of, entry_of}
 use Rattle.thread_base.specs.Numbers.{is_in_scope}
 use Rattle.journal_text.specs.Refusals.{◌orelse◌, line_refusal, with_parts, with_line, with_lines, first_bad_line, first_bad, entries_of}
 use Rattle.journal_text.specs.Valid.{IsEvent, MayFollow, EachFollows, IsJournal}
 use Rattle.journal_text.proofs.Digits.{decimal-number, hex-hex_bytes, length-hex_bytes, AreBytes, AreBytes-hex_bytes, AreBytes-append}
-use Rattle.journal_text.proofs.Parts.{IsGood, good_parts, are_numbers, when_none, and_second}
+use Rattle.journal_text.proofs.Parts.{is_event, form_parts, IsGood, good_parts, are_numbers, when_none, and_second}
 use Rattle.journal_text.proofs.Cuts.{IsCut, is_cut, line_text, flat_map-lines}
 use Rattle.journal_text.proofs.Events.{begins, IsForm, tick, eof, sig, bytes, is_form_by}
 use Rattle.journal_text.proofs.Follows.{EachFollows-push, total_len-append, lines-append}
@@ -23,39 +25,25 @@ use Rattle.journal_text.proofs.Follows.{EachFollows-push, total_len-append, line
 abbrev pub IsWhole : List ℕ → Parts → Type 0
 IsWhole text p = text ≡ p.n ++ 46 ∷ p.k ++ 32 ∷ p.event
 
-abbrev pub is_event : List ℕ → Bool
-is_event event = is_tick event || (is_end event || (is_sig event || is_data event))
-
 by_cuts : (text rest : List ℕ) → rest ≡ after_first (λ b. eqb b 46) text
     → is_digits (before_first (λ b. eqb b 32) rest) ≡ true → is_event (after_first (λ b. eqb b 32) rest) ≡ true
     → IsCut 46 text → IsCut 32 rest → IsWhole text (parts_behind (before_first (λ b. eqb b 46) text) rest)
-by_cuts text rest same digits event (inl h) (inl g) =
-    let n = before_first (λ b. eqb b 46) text in
-    let p = parts_behind n rest in
-    h ∙ ap (λ r. n ++ 46 ∷ r) (sym same ∙ g) ∙ sym (append_assoc n (46 ∷ p.k) (32 ∷ p.event))
-by_cuts text rest same digits event (inr h) g =
-    let no_digits = subst (λ r. is_digits (before_first (λ b. eqb b 32) r) ≡ true) (same ∙ h) digits in cc
-by_cuts text rest same digits event (inl h) (inr g) =
-    let no_event = subst (λ e. is_event e ≡ true) g event in cc
+by_cuts text rest same digits event n k = grind (arith, append_assoc)
 
 pub written_back : (text : List ℕ) → is_form (parts_of text) ≡ true → IsWhole text (parts_of text)
 written_back text form =
     let rest = after_first (λ b. eqb b 46) text in
-    let first = and_parts (is_digits (parts_of text).n) _ form in
-    let second = and_parts (is_digits (parts_of text).k) _ first.1 in
-    by_cuts text rest refl second.0 second.1 (is_cut 46 text) (is_cut 32 rest)
+    let parts = form_parts (parts_of text) form in
+    by_cuts text rest refl parts.1 parts.2 (is_cut 46 text) (is_cut 32 rest)
 
 -- the place of data does not tell whether an event is input
 pub is_input-what_of : (start : ℕ) (event : List ℕ) → is_input (what_of start event) ≡ is_input (what_of 0 event)
 unfolding what_of
-is_input-what_of start event = by_tests (is_tick event) (is_end event) (is_sig event) start (number (drop 4 event)) (length (drop 5 event) / 2)
+is_input-what_of start event = by_tests (is_tick event) (is_end event) (is_sig event) start _ _
   where
     by_tests : (a b c : Bool) (start n len : ℕ)
         → is_input (cond a Tick (cond b Eof (cond c (Sig n) (Data start len)))) ≡ is_input (cond a Tick (cond b Eof (cond c (Sig n) (Data 0 len))))
-    by_tests true b c start n len = refl
-    by_tests false true c start n len = refl
-    by_tests false false true start n len = refl
-    by_tests false false false start n len = refl
+    by_tests a b c start n len = grind arith
 
 -- an event of a line without a refusal
 pub record IsRead (before : List Entry) (start : ℕ) (event all : List ℕ) : Type 0 where
@@ -63,6 +51,12 @@ pub record IsRead (before : List Entry) (start : ℕ) (event all : List ℕ) : T
   pub valid : IsEvent before (what_of start event)
   pub len : data_len (what_of start event) ≡ length (data_of event)
   pub small : AreBytes (data_of event)
+
+read_as : (before : List Entry) (start : ℕ) (event all : List ℕ) (w : What) (bs : List ℕ) → what_of start event ≡ w
+    → data_of event ≡ bs → event_text all w ≡ event → IsEvent before w → data_len w ≡ length bs → AreBytes bs
+    → IsRead before start event all
+read_as before start event all w bs what are text valid len small =
+    record { text = rw what text; valid = rw what valid; len = rw (what, are) len; small = rw are small }
 
 -- the signal's number is in scope, without a leading zero
 in_scope : (j : Contents) (p : Parts) (ds : List ℕ) → IsGood j p → p.event ≡ codes "sig " ++ ds
@@ -74,45 +68,28 @@ in_scope j p ds good e digits =
     let scope = not-false _ (and_second (is_sig p.event) _ good.signal is) in
     (rw rest at scope, rw rest at plain)
 
+hex_lens : (ds : List ℕ) → is_hex ds ≡ true
+    → (2 ≤ length ds) × (length ds ≤ 8192) × (length ds % 2 ≡ 0) × (list_all is_hex_digit ds ≡ true)
+hex_lens ds h = grind (arith, nat_tests)
+
 is_read_by : (j : Contents) (p : Parts) (all : List ℕ) → IsGood j p → length j.bytes ≡ total_len j.entries
     → take (length (data_of p.event)) (drop (length j.bytes) all) ≡ data_of p.event
     → IsForm (length j.bytes) p.event → IsRead j.entries (length j.bytes) p.event all
-is_read_by j p all good whole part (tick e what no_bytes) = record {
-  text = ap (event_text all) what ∙ sym e;
-  valid = subst (IsEvent j.entries) (sym what) tt;
-  len = ap data_len what ∙ sym (ap length no_bytes);
-  small = subst AreBytes (sym no_bytes) tt;
-}
-is_read_by j p all good whole part (eof e what no_bytes) = record {
-  text = ap (event_text all) what ∙ sym e;
-  valid = subst (IsEvent j.entries) (sym what) tt;
-  len = ap data_len what ∙ sym (ap length no_bytes);
-  small = subst AreBytes (sym no_bytes) tt;
-}
-is_read_by j p all good whole part (sig ds e digits what no_bytes) =
+is_read_by j p all good whole part (tick e what none) = read_as _ _ _ _ _ _ what none (sym e) tt refl tt
+is_read_by j p all good whole part (eof e what none) = read_as _ _ _ _ _ _ what none (sym e) tt refl tt
+is_read_by j p all good whole part (sig ds e digits what none) =
     let scope = in_scope j p ds good e digits in
-    let most = leb-true _ _ (and_parts (leb (number ds) 31) _ (and_parts (leb 1 (number ds)) _ scope.0).1).0 in
-    record {
-      text = ap (event_text all) what ∙ ap (λ d. codes "sig " ++ d) (decimal-number ds digits scope.1 (omega (arith, most))) ∙ sym e;
-      valid = subst (IsEvent j.entries) (sym what) scope.0;
-      len = ap data_len what ∙ sym (ap length no_bytes);
-      small = subst AreBytes (sym no_bytes) tt;
-    }
+    let text = decimal-number ds digits scope.1 (at_most (number ds) scope.0) in
+    read_as _ _ _ _ _ _ what none (rw text (sym e)) scope.0 refl tt
+  where
+    at_most : (n : ℕ) → is_in_scope n ≡ true → n < 2 ^ 64
+    at_most n h = grind (arith, nat_tests)
 is_read_by j p all good whole part (bytes ds e is_of_hex what are) =
-    let low = and_parts (leb 2 (length ds)) _ is_of_hex in
-    let high = and_parts (leb (length ds) 8192) _ low.1 in
-    let even = and_parts (eqb (length ds % 2) 0) _ high.1 in
-    let least = leb-true _ _ low.0 in
-    let most = leb-true _ _ high.0 in
+    let hex = hex_lens ds is_of_hex in
     let len = length-hex_bytes ds in
-    let digits = hex-hex_bytes ds even.1 (eqb-true _ _ even.0) in
+    let digits = hex-hex_bytes ds hex.3 hex.2 in
     let same : take (length ds / 2) (drop (length j.bytes) all) ≡ hex_bytes ds = rw (are, len) at part in
-    record {
-      text = ap (event_text all) what ∙ ap (λ d. codes "data " ++ hex d) same ∙ ap (λ d. codes "data " ++ d) digits ∙ sym e;
-      valid = subst (IsEvent j.entries) (sym what) (whole, omega arith, omega arith);
-      len = ap data_len what ∙ sym (ap length are ∙ len);
-      small = subst AreBytes (sym are) (AreBytes-hex_bytes ds even.1);
-    }
+    read_as _ _ _ _ _ _ what are (rw (same, digits) (sym e)) (whole, omega arith, omega arith) (sym len) (AreBytes-hex_bytes ds hex.3)
 
 -- what is read so far is a journal but for the length of its text
 pub record IsSoFar (j : Contents) : Type 0 where
@@ -127,16 +104,11 @@ entry_spelled : (j : Contents) (text all : List ℕ) → IsGood j (parts_of text
     → entry_text all (entry_of (length j.bytes) (parts_of text)) ≡ text
 entry_spelled j text all good read =
     let p = parts_of text in
-    let form = good.form in
-    let first = and_parts (is_digits p.n) _ form in
-    let second = and_parts (is_digits p.k) _ first.1 in
+    let parts = form_parts p good.form in
     let numbers = are_numbers p good.number in
-    let n = decimal-number p.n first.0 numbers.n_plain (omega (arith, numbers.n)) in
-    let k = decimal-number p.k second.0 numbers.k_plain (omega (arith, numbers.k)) in
-    ap (λ d. d ++ 46 ∷ decimal (number p.k) ++ 32 ∷ event_text all (what_of (length j.bytes) p.event)) n
-    ∙ ap (λ d. p.n ++ 46 ∷ d ++ 32 ∷ event_text all (what_of (length j.bytes) p.event)) k
-    ∙ ap (λ d. p.n ++ 46 ∷ p.k ++ 32 ∷ d) read.text
-    ∙ sym (written_back text form)
+    let n = decimal-number p.n parts.0 numbers.n_plain (omega (arith, numbers.n)) in
+    let k = decimal-number p.k parts.1 numbers.k_plain (omega (arith, numbers.k)) in
+    rw (n, k, read.text) (sym (written_back text good.form))
 
 may_follow : (j : Contents) (p : Parts) (all : List ℕ) → IsGood j p
     → IsRead j.entries (length j.bytes) p.event all → MayFollow j.entries (entry_of (length j.bytes) p)
@@ -159,29 +131,20 @@ step j text so_far good =
     let e = entry_of (length j.bytes) p in
     let behind : drop (length j.bytes) all ≡ data_of p.event = drop-append_seam j.bytes (data_of p.event) in
     let part : take (length (data_of p.event)) (drop (length j.bytes) all) ≡ data_of p.event = rw behind (take-length (data_of p.event)) in
-    let first = and_parts (is_digits p.n) _ good.form in
-    let second = and_parts (is_digits p.k) _ first.1 in
-    let read = is_read_by j p all good so_far.whole part (is_form_by (length j.bytes) p.event second.1) in
-    let may = may_follow j p all good read in
+    let read = is_read_by j p all good so_far.whole part (is_form_by (length j.bytes) p.event (form_parts p good.form).2) in
     let room = leb-false _ _ good.few in
-    let same = lines-append [] j.entries j.bytes (data_of p.event) so_far.each (omega (arith, so_far.whole)) in
-    let spelled = entry_spelled j text all good read in (
+    let same = lines-append [] j.entries j.bytes (data_of p.event) so_far.each (omega (arith, so_far.whole)) in (
       record {
-        each = EachFollows-push [] j.entries e so_far.each may;
+        each = EachFollows-push [] j.entries e so_far.each (may_follow j p all good read);
         whole = omega (arith, length-append j.bytes (data_of p.event), total_len-append j.entries (e ∷ []), read.len, so_far.whole);
         bytes = AreBytes-append j.bytes (data_of p.event) so_far.bytes read.small;
         few = omega (arith, room, length-append j.entries (e ∷ []));
       },
-      ap (λ x. header ++ x)
-          (flat_map-append (entry_line all) j.entries (e ∷ [])
-          ∙ ap (λ x. x ++ (entry_line all e ++ [])) same
-          ∙ ap (λ x. flat_map (entry_line j.bytes) j.entries ++ x) (append-nil (entry_line all e) ∙ ap (λ x. x ++ 10 ∷ []) spelled))
-          ∙ sym (append_assoc header (flat_map (entry_line j.bytes) j.entries) (text ++ 10 ∷ [])),
+      rw (flat_map-append, same, entry_spelled j text all good read, append-nil) refl,
     )
 
 orelse_none : (a b : Option JournalRefusal) → (a orelse b) ≡ None → (a ≡ None) × (b ≡ None)
-orelse_none None b h = (refl, h)
-orelse_none (Some r) b h = cc
+orelse_none a b h = grind arith
 
 -- all lines
 pub along : (j : Contents) (all : List Line) → IsSoFar j → first_bad_line j all ≡ None

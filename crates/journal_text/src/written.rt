@@ -51,6 +51,7 @@ fn cut_at(text: &[u8], mark: u8) -> (&[u8], &[u8])
 }
 
 /// The first line of a text without its line feed, and the text behind it; None exactly without a line feed.
+#[tactic(auto, using(crate::proofs::Cuts::cut_some, crate::proofs::Cuts::cut_none))]
 pub fn cut_line(text: &[u8]) -> Option<(&[u8], &[u8])>
     ensures found { IfSome result (λ cut. lines text.now ≡ record { text = cut.0.now; ended = true } ∷ lines cut.1.now) }
     ensures len { IfSome result (λ cut. length cut.0.now + length cut.1.now + 1 ≡ length text.now) }
@@ -82,6 +83,7 @@ fn has_leading_zero(digits: &[u8]) -> bool
 }
 
 /// The number that digits write, or the greatest `u32` where it is greater.
+#[tactic(auto, unfolding(crate::specs::Lines::number), using(crate::proofs::Digits::number_more))]
 fn number(digits: &[u8]) -> u32
     ensures { result ≡ min (number digits.now) 4294967295 }
 {
@@ -223,6 +225,7 @@ impl<'a> Written<'a> {
     }
 
     /// The place that it names.
+    #[tactic(auto, using(crate::proofs::Parts::are_numbers))]
     pub fn place(&self) -> Place
         requires { is_bad_number self.now ≡ false }
         ensures { result ≡ place_of self.now }

@@ -9,13 +9,14 @@ use Rattle.thread_base.proofs.SearchLemmas.{find_none, in_range}
 use Rattle.thread_base.proofs.MapLemmas.{put_is, put_same, put_other, first_put, second_put}
 use Rattle.tid_list.specs.Waiting.{queue_of}
 use Rattle.mutex_table.specs.declared.Look.{Look}
-use Rattle.mutex_table.specs.MutexMap.{Table, mutex_of, mutexes, look_of, waiters_of, waiting, with_holder, with_waiters, is_owned_by, AreSound}
+use Rattle.thread_base.specs.Objects.{waiters_in, with_holder, with_waiters, is_owned_by}
+use Rattle.mutex_table.specs.MutexMap.{Table, mutex_of, mutexes, look_of, waiting, AreSound}
 
 look_back : (o : Option Look) (ts : List ℕ) → look_of (mutex_of o ts) ≡ o
 look_back None ts = refl
 look_back (Some look) ts = refl
 
-same_waiters : (o : Option Look) (ts : List ℕ) → (IsNone o → ts ≡ []) → waiters_of (mutex_of o ts) ≡ ts
+same_waiters : (o : Option Look) (ts : List ℕ) → (IsNone o → ts ≡ []) → waiters_in (mutex_of o ts) ≡ ts
 same_waiters None ts h = sym (h refl)
 same_waiters (Some look) ts h = refl
 

@@ -11,7 +11,8 @@ ghost use Rattle.thread_base.specs.Maps.{put, numbered};
 ghost use Rattle.thread_base.specs.Orders.{is_in, without};
 ghost use Rattle.thread_base.specs.Priority.{first_greatest};
 ghost use Rattle.tid_list.specs.Waiting.{StandsInNone, StandsInOne, AreApart};
-ghost use Rattle.mutex_table.specs.MutexMap.{mutexes, look_of, waiters_of, waiting, free_mutex, with_holder, with_waiters, is_owned_by};
+ghost use Rattle.thread_base.specs.Objects.{waiters_in, free_mutex, with_holder, with_waiters, is_owned_by};
+ghost use Rattle.mutex_table.specs.MutexMap.{mutexes, look_of, waiting};
 
 use std::alloc::Global;
 use std::marker::Model;
@@ -129,7 +130,7 @@ impl Mutexes {
     /// Takes a mutex away for which nobody waits.
     pub fn destroy(&mut self, m: u32)
         requires exists { IsSome (mutexes self.old m) }
-        requires idle { waiters_of (mutexes self.old m) ≡ [] }
+        requires idle { waiters_in (mutexes self.old m) ≡ [] }
         ensures { mutexes self.new ≡ put (mutexes self.old) m None }
     {
         self.looks[m as usize] = None;
@@ -173,9 +174,9 @@ impl Mutexes {
     /// thread t; None exactly where nobody waits.
     pub fn best_waiter(&self, m: u32, eff: &[u8; 64]) -> Option<Tid>
         requires { IsSome (mutexes self.now m) }
-        ensures first { result ≡ first_greatest (numbered 0 eff.now) (waiters_of (mutexes self.now m)) }
-        ensures empty { IsNone result ↔ (waiters_of (mutexes self.now m) ≡ []) }
-        ensures member { IfSome result (λ t. is_in t (waiters_of (mutexes self.now m)) ≡ true) }
+        ensures first { result ≡ first_greatest (numbered 0 eff.now) (waiters_in (mutexes self.now m)) }
+        ensures empty { IsNone result ↔ (waiters_in (mutexes self.now m) ≡ []) }
+        ensures member { IfSome result (λ t. is_in t (waiters_in (mutexes self.now m)) ≡ true) }
     {
         self.waiters.best(m, eff)
     }
@@ -183,7 +184,7 @@ impl Mutexes {
     /// The threads that wait for a mutex, in order of arrival.
     pub fn waiters(&self, m: u32) -> &[Tid]
         requires { IsSome (mutexes self.now m) }
-        ensures queue { result.now ≡ waiters_of (mutexes self.now m) }
+        ensures queue { result.now ≡ waiters_in (mutexes self.now m) }
         ensures apart { AreApart (waiting (mutexes self.now)) }
     {
         self.waiters.threads(m)

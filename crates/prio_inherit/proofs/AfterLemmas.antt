@@ -1,19 +1,15 @@
 -- What a caller knows after a change, where stored priorities were effective before it.
-use Rattle.std.proofs.Common.{◌≡◌, ◌∙◌, ℕ, sym, subst, refl, inl, inr, ◌≤◌, arith, Option, None}
+use Rattle.std.proofs.Common.{◌≡◌, ℕ, refl, inl, inr, ◌≤◌, arith, Option, None}
 use Rattle.thread_base.specs.Maps.{put}
 use Rattle.thread_base.proofs.MapLemmas.{put_same, put-put, put_got}
 use Rattle.prio_inherit.specs.Priorities.{AreEffective, WereEffectiveBeforeRaise, WereEffectiveBeforeLower}
 
 module _ (own : ℕ → ℕ) (edge : ℕ → Option ℕ) (prio : ℕ → ℕ) (t : ℕ) (right : AreEffective own edge prio) where
   own_back : (p : ℕ) → AreEffective (put (put own t p) t (own t)) (put edge t (edge t)) prio
-  own_back p =
-      subst (λ m. AreEffective m (put edge t (edge t)) prio) (sym (put-put own t p (own t) ∙ put_got own t))
-      (subst (λ m. AreEffective own m prio) (sym (put_got edge t)) right)
+  own_back p = rw (put-put, put_got own t, put_got edge t) right
 
   edge_back : (to : Option ℕ) → AreEffective (put own t (own t)) (put (put edge t to) t (edge t)) prio
-  edge_back to =
-      subst (λ m. AreEffective (put own t (own t)) m prio) (sym (put-put edge t to (edge t) ∙ put_got edge t))
-      (subst (λ m. AreEffective m edge prio) (sym (put_got own t)) right)
+  edge_back to = rw (put-put, put_got own t, put_got edge t) right
 
   -- after a thread's own priority was raised
   pub own_raised : (p : ℕ) → own t ≤ p → WereEffectiveBeforeRaise (put own t p) edge prio t

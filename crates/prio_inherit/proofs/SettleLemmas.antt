@@ -1,6 +1,5 @@
 -- Raising along the edge of each thread in turn.
-use Rattle.std.proofs.Common.{◌≡◌, ℕ, ◌∙◌, sym, ap, subst, refl, inl, inr, ◌≤◌, ◌<◌, ◌+◌, arith, Option, Some}
-use Rattle.std.proofs.lemmas.Bool.{cases_eq}
+use Rattle.std.proofs.Common.{◌≡◌, ℕ, ◌∙◌, sym, subst, refl, inl, inr, ◌≤◌, ◌<◌, ◌+◌, arith, Option, Some}
 use Rattle.thread_base.specs.Numbers.{IsTid}
 use Rattle.thread_base.specs.Priority.{Leads, here, along, AreWithin}
 use Rattle.prio_inherit.specs.Priorities.{AreEffective, Raised}
@@ -23,14 +22,15 @@ module _ (edge : ℕ → Option ℕ) (old cur new : ℕ → ℕ) (n p : ℕ) (fr
     (priority : p ≡ cur (n + 1)) (first : from ≡ edge (n + 1)) (r : Raised edge cur new from p) (so : Settling edge old cur n) where
   -- the thread itself stays as it was
   same : new (n + 1) ≡ p
-  same = elim (r.source (n + 1) (omega arith, omega arith)) [ inl was ↦ was ∙ sym priority | inr top ↦ top.0 ]
+  same = let source = r.source (n + 1) (omega arith, omega arith) in grind arith
 
   order : (t u : ℕ) → IsTid t → t ≤ n + 1 → edge t ≡ Some u → new t ≤ new u
   order t u range le e =
-      elim (cases_eq t (n + 1)) [
-        | inl it ↦ (let much = r.target u (first ∙ ap edge (sym it) ∙ e) in let own : new t ≡ p = ap new it ∙ same in omega (arith, much, own))
-        | inr other ↦ r.in_order t u range e (so.in_order t u range (omega (arith, other)) e)
-      ]
+      let own = same in
+      let much = r.target u in
+      let more = r.in_order t u range e in
+      let was = so.in_order t u range in
+      grind arith
 
   lent_to : (t : ℕ) → IsTid t → IsLent old edge t (new t)
   lent_to t range =

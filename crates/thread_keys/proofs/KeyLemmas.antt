@@ -1,10 +1,10 @@
 -- The destructors and the values of a table of keys after a change of one of them.
-use Rattle.std.proofs.Common.{◌≡◌, ◌≢◌, ◌∙◌, refl, sym, ap, subst, arith, ℕ, ◌+◌, ◌-◌, ◌<◌, ◌≤◌, zero, suc, true, false, cond, not, is_none, is_some, unwrap_or, Option, Some, None, IsSome, IsNone, List, length, get_or, set, replicate, get_or-set_same, get_or-set_other, ltb, eqb, ◌&&◌, inl, inr}
+use Rattle.std.proofs.Common.{◌≡◌, ◌∙◌, refl, sym, ap, arith, ℕ, ◌+◌, ◌-◌, ◌<◌, ◌≤◌, zero, suc, false, cond, is_none, Option, Some, None, IsSome, IsNone, List, length, get_or, set, replicate, get_or-set_same, get_or-set_other, ltb}
 use Rattle.std.proofs.lemmas.List.{get_or_past}
-use Rattle.std.proofs.lemmas.Bool.{cases_lt, lt-ltb, le-ltb}
+use Rattle.std.proofs.lemmas.Bool.Decides.{nat_tests}
 use Rattle.std.specs.Option.{option_map}
 use Rattle.thread_base.specs.Maps.{put}
-use Rattle.thread_base.proofs.MapLemmas.{put_is, put_same, put_other, put-put, put_got}
+use Rattle.thread_base.proofs.MapLemmas.{put_is, put_same, put_other, put_got}
 use Rattle.thread_base.proofs.SearchLemmas.{find_passes, find_member, find_none, in_range, range_in}
 use Rattle.thread_keys.specs.declared.key.Key.{Key}
 use Rattle.std.specs.List.{range_with_len}
@@ -42,8 +42,7 @@ pub values_removed : (keys : List (Option Key)) (k : ℕ) → k < length keys �
 values_removed keys k h = λ i t. values_set keys k None t h i
 
 absent : (o : Option Key) (t : ℕ) → destructor_in o ≡ None → values_in o t ≡ 0
-absent None t e = refl
-absent (Some key) t e = let x : Some key.destructor ≡ None = e in cc
+absent o t e = grind arith
 
 -- what is no key has the value 0
 pub value_absent : (keys : List (Option Key)) (t k : ℕ) → destructor_of keys k ≡ None → value_of keys t k ≡ 0
@@ -106,21 +105,9 @@ pub destructor_past : (keys : List (Option Key)) (k : ℕ) → length keys ≤ k
 unfolding destructor_of
 destructor_past keys k h = ap destructor_in (get_or_past keys k None h)
 
-some_of : {A : Type 0} (o : Option A) → is_none o ≡ false → IsSome o
-some_of None h = absurd (let e : true ≡ false = h in cc)
-some_of (Some x) h = refl
-
-none_of : {A : Type 0} (o : Option A) → is_none o ≡ true → o ≡ None
-none_of None h = refl
-none_of (Some x) h = absurd (let e : false ≡ true = h in cc)
-
-nothing : {A : Type 0} (o : Option A) → IsNone o → o ≡ None
-nothing None h = refl
-nothing (Some x) h = absurd (let e : true ≡ false = h in cc)
-
 -- the least free number is no key's
 pub fresh_number : (map : ℕ → Option ℕ) (k : ℕ) → Some k ≡ free_key map → map k ≡ None
-fresh_number map k e = none_of (map k) (find_passes (λ u. is_none (map u)) key_numbers k (sym e))
+fresh_number map k e = let passes = find_passes (λ u. is_none (map u)) key_numbers k (sym e) in grind arith
 
 pub within_limit : (map : ℕ → Option ℕ) (k : ℕ) → Some k ≡ free_key map → k < 128
 unfolding key_numbers
@@ -129,29 +116,29 @@ within_limit map k e = (range_in 0 128 k (find_member (λ u. is_none (map u)) ke
 none_found : (map : ℕ → Option ℕ) (o : Option ℕ) → o ≡ free_key map → ((k : ℕ) → k < 128 → IsSome (map k)) → IsNone o
 none_found map None e all = refl
 none_found map (Some k) e all =
-    let h = fresh_number map k e in
-    absurd (let b : true ≡ false = sym (all k (within_limit map k e)) ∙ ap is_some h in cc)
+    let fresh = fresh_number map k e in
+    let some = all k (within_limit map k e) in
+    grind arith
 
 -- none is found exactly where every number is a key's
 pub full_numbers : (map : ℕ → Option ℕ) (o : Option ℕ) → o ≡ free_key map
     → (IsNone o → (k : ℕ) → k < 128 → IsSome (map k)) × (((k : ℕ) → k < 128 → IsSome (map k)) → IsNone o)
 unfolding key_numbers
 full_numbers map o e = (
-  λ h k range. some_of (map k) (find_none (λ u. is_none (map u)) key_numbers k (sym e ∙ nothing o h) (in_range 0 128 k (omega arith) (omega arith))),
+  λ h k range. (
+      let fails = find_none (λ u. is_none (map u)) key_numbers k (grind arith) (in_range 0 128 k (omega arith) (omega arith)) in
+      grind arith),
   none_found map o e,
 )
 
 pub fresh_none : (map : ℕ → Option ℕ) (k : ℕ) → Some k ≡ free_key map → IsNone (map k)
-fresh_none map k e = subst (λ o. IsNone o) (sym (fresh_number map k e)) refl
-
-due_absent : (map : ℕ → Option ℕ) (values : ℕ → ℕ → ℕ) (t k : ℕ) → map k ≡ None → is_due map values t k ≡ false
-due_absent map values t k e = ap (λ o. not (eqb (unwrap_or o 0) 0) && not (eqb (values t k) 0)) e
+fresh_none map k e = let fresh = fresh_number map k e in grind arith
 
 -- what is due exists
 pub due_exists : (map : ℕ → Option ℕ) (values : ℕ → ℕ → ℕ) (t first k : ℕ) → Some k ≡ due_key map values t first → map k ≡ None → ⊥
 due_exists map values t first k found e =
     let passes = find_passes (λ u. is_due map values t u) (range_with_len first (128 - first)) k (sym found) in
-    let b : true ≡ false = sym passes ∙ due_absent map values t k e in cc
+    grind (arith, nat_tests)
 
 not_due : (map : ℕ → Option ℕ) (values : ℕ → ℕ → ℕ) (t first : ℕ) (o : Option ℕ) → o ≡ due_key map values t first
     → ((k : ℕ) → first ≤ k → k < 128 → is_due map values t k ≡ false) → IsNone o
@@ -159,14 +146,15 @@ not_due map values t first None e none = refl
 not_due map values t first (Some k) e none =
     let passes = find_passes (λ u. is_due map values t u) (range_with_len first (128 - first)) k (sym e) in
     let range = range_in first (128 - first) k (find_member (λ u. is_due map values t u) (range_with_len first (128 - first)) k (sym e)) in
-    absurd (let b : true ≡ false = sym passes ∙ none k range.0 (omega (arith, range.0, range.1)) in cc)
+    let fails = none k range.0 (omega (arith, range.0, range.1)) in
+    grind arith
 
 -- none is found exactly where none is due
 pub due_none : (map : ℕ → Option ℕ) (values : ℕ → ℕ → ℕ) (t first : ℕ) (o : Option ℕ) → o ≡ due_key map values t first
     → (IsNone o → (k : ℕ) → first ≤ k → k < 128 → is_due map values t k ≡ false)
     × (((k : ℕ) → first ≤ k → k < 128 → is_due map values t k ≡ false) → IsNone o)
 due_none map values t first o e = (
-  λ h k low high. find_none (λ u. is_due map values t u) (range_with_len first (128 - first)) k (sym e ∙ nothing o h) (in_range first (128 - first) k low (omega (arith, low, high))),
+  λ h k low high. find_none (λ u. is_due map values t u) (range_with_len first (128 - first)) k (grind arith) (in_range first (128 - first) k low (omega (arith, low, high))),
   not_due map values t first o e,
 )
 
@@ -174,35 +162,20 @@ due_none map values t first o e = (
 unfoldable pub cleared_below : (ℕ → ℕ) → ℕ → ℕ → ℕ
 cleared_below m n k = cond (ltb k n) 0 (m k)
 
-cleared_none : (m : ℕ → ℕ) → cleared_below m 0 ≡ m
-unfolding cleared_below
-cleared_none m = λ i k. (let h : ltb k 0 ≡ false = le-ltb k 0 (omega arith) in ap (λ b. cond b 0 (m k)) h) i
-
-cleared_here : (m : ℕ → ℕ) (n : ℕ) → cleared_below m (n + 1) n ≡ 0
-unfolding cleared_below
-cleared_here m n = let h : ltb n (n + 1) ≡ true = lt-ltb n (n + 1) (omega arith) in ap (λ b. cond b 0 (m n)) h
-
-same_side : (n u : ℕ) → u ≢ n → ltb u (n + 1) ≡ ltb u n
-same_side n u ne =
-    elim (cases_lt u n) as (λ _. ltb u (n + 1) ≡ ltb u n) [
-      | inl low ↦ lt-ltb u (n + 1) (omega arith) ∙ sym (lt-ltb u n low)
-      | inr high ↦ le-ltb u (n + 1) (omega arith) ∙ sym (le-ltb u n high)
-    ]
-
-cleared_there : (m : ℕ → ℕ) (n u : ℕ) → u ≢ n → cleared_below m (n + 1) u ≡ cleared_below m n u
-unfolding cleared_below
-cleared_there m n u ne = ap (λ b. cond b 0 (m u)) (same_side n u ne)
-
 cleared_more : (values : ℕ → ℕ → ℕ) (t n : ℕ)
     → put_value (put values t (cleared_below (values t) n)) t n 0 ≡ put values t (cleared_below (values t) (n + 1))
-cleared_more values t n =
-    let below = cleared_below (values t) n in
-    put-put values t below (put (put values t below t) n 0)
-    ∙ ap (λ m. put values t (put m n 0)) (put_same values t below)
-    ∙ ap (put values t) (sym (put_is below (cleared_below (values t) (n + 1)) n 0 (cleared_here (values t) n) (cleared_there (values t) n)))
+unfolding put cleared_below
+cleared_more values t n = λ i u k. at u k i
+  where
+    at : (u k : ℕ) → put_value (put values t (cleared_below (values t) n)) t n 0 u k ≡ put values t (cleared_below (values t) (n + 1)) u k
+    at u k = grind (arith, nat_tests)
 
 pub cleared_first : (values : ℕ → ℕ → ℕ) (t : ℕ) → values ≡ put values t (cleared_below (values t) 0)
-cleared_first values t = sym (ap (put values t) (cleared_none (values t)) ∙ put_got values t)
+unfolding put cleared_below
+cleared_first values t = λ i u k. at u k i
+  where
+    at : (u k : ℕ) → values u k ≡ put values t (cleared_below (values t) 0) u k
+    at u k = grind (arith, nat_tests)
 
 pub cleared_key : (keys : List (Option Key)) (values : ℕ → ℕ → ℕ) (t n : ℕ) (key after : Key) → n < length keys → get_or keys n None ≡ Some key
     → values_of after ≡ put (values_of key) t 0 → value_of keys ≡ put values t (cleared_below (values t) n)
@@ -225,15 +198,11 @@ cleared_no_key keys values t n is e =
 value_past : (keys : List (Option Key)) (t k : ℕ) → length keys ≤ k → value_of keys t k ≡ 0
 value_past keys t k h = value_absent keys t k (destructor_past keys k h)
 
-all_cleared : (keys : List (Option Key)) (t n k : ℕ) → length keys ≤ n → cleared_below (value_of keys t) n k ≡ 0
-unfolding cleared_below
-all_cleared keys t n k h =
-    elim (cases_lt k n) as (λ _. cond (ltb k n) 0 (value_of keys t k) ≡ 0) [
-      | inl low ↦ (let e : ltb k n ≡ true = lt-ltb k n low in ap (λ b. cond b 0 (value_of keys t k)) e)
-      | inr high ↦ (let e : ltb k n ≡ false = le-ltb k n high in ap (λ b. cond b 0 (value_of keys t k)) e ∙ value_past keys t k (omega arith))
-    ]
-
 -- where all keys of the table are below the number, every value is 0
 pub cleared_all : (keys : List (Option Key)) (t n : ℕ) → length keys ≤ n
     → put (value_of keys) t (cleared_below (value_of keys t) n) ≡ put (value_of keys) t (λ k. 0)
-cleared_all keys t n h = ap (put (value_of keys) t) (λ i k. all_cleared keys t n k h i)
+unfolding put cleared_below
+cleared_all keys t n h = λ i u k. at u k i
+  where
+    at : (u k : ℕ) → put (value_of keys) t (cleared_below (value_of keys t) n) u k ≡ put (value_of keys) t (λ k. 0) u k
+    at u k = let past = value_past keys t k in grind (arith, nat_tests)

@@ -36,6 +36,7 @@ impl Model for Keys {
 #[tactic(auto, unfolding(crate::specs::KeyTable::destructor_of, crate::specs::KeyTable::value_of, crate::specs::KeyTable::key_numbers))]
 impl Keys {
     /// No key. NoMemory comes only where memory ran out; no later call takes any.
+    #[tactic(auto, using(crate::proofs::KeyLemmas::destructor_blank, crate::proofs::KeyLemmas::values_blank))]
     pub fn new(alloc: Global) -> Result<Keys, NoMemory>
         ensures destructors { IfOk result (λ k. destructor_of k ≡ (λ _. None)) }
         ensures values { IfOk result (λ k. value_of k ≡ (λ _. λ _. 0)) }
@@ -62,6 +63,7 @@ impl Keys {
     }
 
     /// Takes a key away with all its values; false, and nothing changes, exactly where no such key exists.
+    #[tactic(auto, using(crate::proofs::KeyLemmas::destructor_removed, crate::proofs::KeyLemmas::values_removed))]
     pub fn delete(&mut self, k: u32) -> bool
         ensures exists { result ≡ is_some (destructor_of self.old k) }
         ensures destructors { destructor_of self.new

@@ -1,6 +1,7 @@
 -- Lists of waiting threads after a change of one of them, and what is noted for each thread.
 use Rattle.std.proofs.Common.{◌≡◌, ◌≢◌, ◌∙◌, refl, sym, ap, subst, arith, inl, inr, ℕ, ◌+◌, ◌<◌, true, false, List, [], ◌∷◌, ◌++◌, Option, Some, None, length, get_or, set, length-set, get_or-set_same, get_or-set_other, suc, zero}
-use Rattle.std.proofs.lemmas.Bool.{eq-eqb, eqb-true, ne_eqb, cases_eq, cases_lt}
+use Rattle.std.proofs.lemmas.Bool.{eq-eqb, ne_eqb, cases_eq, cases_lt}
+use Rattle.std.proofs.lemmas.Bool.Decides.{nat_tests}
 use Rattle.std.proofs.lemmas.List.{get_or_default, get_or_past}
 use Rattle.thread_base.specs.Maps.{put, numbered}
 use Rattle.thread_base.specs.Orders.{is_in, without, IsOrder}
@@ -51,8 +52,7 @@ empty_behind lists e = λ i n. (behind lists n ∙ ap (λ f. f n) e) i
     behind (x ∷ xs) (suc n) = behind xs n
 
 apart_is : (o : Option ℕ) (m n : ℕ) → is_for o m ≡ true → is_for o n ≡ true → m ≡ n
-apart_is None m n h k = absurd (let e : false ≡ true = h in cc)
-apart_is (Some x) m n h k = sym (eqb-true x m h) ∙ eqb-true x n k
+apart_is o m n h k = grind (arith, nat_tests)
 
 module _ (lists : List (List ℕ)) (noted : List (Option ℕ)) (are : AreNoted lists noted) where
   pub apart_of : AreApart (queue_of lists)
@@ -90,6 +90,7 @@ module _ (lists : List (List ℕ)) (noted : List (Option ℕ)) (are : AreNoted l
     noted_changed :
         IsOrder ts → is_in t ts ≡ is_for o n → ((u : ℕ) → u ≢ t → is_in u ts ≡ is_in u (queue_of lists n))
         → ((m : ℕ) → m ≢ n → is_in t (queue_of lists m) ≡ is_for o m) → AreNoted (set lists n ts) (set noted i o)
+    unfolding put
     noted_changed order same others elsewhere =
         let queues : queue_of (set lists n ts) ≡ put (queue_of lists) n ts = queue_set lists n ts (omega (arith, are.count)) in
         let notes : numbered None (set noted i o) ≡ put (numbered None noted) t o = numbered_set None noted i t o at (omega (arith, are.threads)) in
@@ -105,28 +106,10 @@ module _ (lists : List (List ℕ)) (noted : List (Option ℕ)) (are : AreNoted l
       where
         changed : (m u : ℕ) → is_in u (put (queue_of lists) n ts m) ≡ is_for (put (numbered None noted) t o u) m
         changed m u =
-            elim (cases_eq m n) [
-              | inl here ↦
-                  (let list : put (queue_of lists) n ts m ≡ ts = ap (put (queue_of lists) n ts) here ∙ put_same (queue_of lists) n ts in
-                  elim (cases_eq u t) [
-                    | inl is ↦
-                        ap (is_in u) list ∙ ap (λ v. is_in v ts) is ∙ same ∙ sym (ap (is_for o) here)
-                        ∙ sym (ap (λ x. is_for x m) (ap (put (numbered None noted) t o) is ∙ put_same (numbered None noted) t o))
-                    | inr un ↦
-                        ap (is_in u) list ∙ others u un ∙ ap (λ k. is_in u (queue_of lists k)) (sym here) ∙ are.agree m u
-                        ∙ sym (ap (λ x. is_for x m) (put_other (numbered None noted) t o u un))
-                  ])
-              | inr there ↦
-                  (let list : put (queue_of lists) n ts m ≡ queue_of lists m = put_other (queue_of lists) n ts m there in
-                  elim (cases_eq u t) [
-                    | inl is ↦
-                        ap (is_in u) list ∙ ap (λ v. is_in v (queue_of lists m)) is ∙ elsewhere m there
-                        ∙ sym (ap (λ x. is_for x m) (ap (put (numbered None noted) t o) is ∙ put_same (numbered None noted) t o))
-                    | inr un ↦
-                        ap (is_in u) list ∙ are.agree m u
-                        ∙ sym (ap (λ x. is_for x m) (put_other (numbered None noted) t o u un))
-                  ])
-            ]
+            let stays = others u in
+            let noted_for = are.agree m u in
+            let not_there = elsewhere m in
+            grind (arith, nat_tests)
 
     module _ (list : List ℕ) (read : list ≡ get_or lists n list) where
       is_queue : list ≡ queue_of lists n

@@ -1,20 +1,9 @@
 -- The first thread that passes a test, and numbers that no thread has.
-use Rattle.std.proofs.Common.{◌≡◌, ℕ, zero, suc, ◌+◌, ◌<◌, ◌≤◌, Bool, true, false, refl, ap, ◌∙◌, inl, inr, arith, List, ◌∷◌, length, find, Some, None}
-use Rattle.std.proofs.lemmas.Bool.{cases_eq}
+use Rattle.std.proofs.Common.{◌≡◌, ℕ, ◌<◌, ◌≤◌, Bool, true, false, refl, arith, List, ◌∷◌, length, find, Some, None}
 use Rattle.std.proofs.lemmas.List.{get_or_past}
-use Rattle.std.specs.List.{range_with_len}
 use Rattle.thread_base.specs.Maps.{numbered}
 use Rattle.thread_base.specs.Priority.{tids}
-use Rattle.thread_base.proofs.SearchLemmas.{find_nowhere}
-
-find_first : (test : ℕ → Bool) (first count x : ℕ) → test x ≡ true → ((u : ℕ) → u < x → test u ≡ false) → first ≤ x → x < first + count
-    → find test (range_with_len first count) ≡ Some x
-find_first test first zero x passes others low high = absurd (omega arith)
-find_first test first (suc count) x passes others low high =
-    elim (cases_eq first x) [
-      | inl same ↦ (let here : test first ≡ true = ap test same ∙ passes in rw here (ap Some same))
-      | inr other ↦ (let skip : test first ≡ false = others first (omega arith) in rw skip (find_first test (first + 1) count x passes others (omega arith) (omega arith)))
-    ]
+use Rattle.thread_base.proofs.SearchLemmas.{find_first, find_nowhere}
 
 -- the thread that passes while no lower number does is the first
 pub first_thread : (test : ℕ → Bool) (t : ℕ) → 1 ≤ t → t ≤ 64 → test t ≡ true → ((u : ℕ) → u < t → test u ≡ false) → find test tids ≡ Some t

@@ -1,6 +1,7 @@
 -- Lists with an item merged in.
-use Rattle.std.proofs.Common.{◌≡◌, ℕ, zero, suc, ◌+◌, ◌<◌, ◌≤◌, ◌^◌, Bool, true, false, cond, refl, sym, ap, ◌∙◌, subst, inl, inr, eqb, arith, rules, tests, List, [], ◌∷◌, ◌++◌, length, get_or, set, drop, map, ◌||◌, Option, Some, None}
-use Rattle.std.proofs.lemmas.Bool.{eq-eqb, ne_eqb, eqb-true, eqb-false, cases_Bool, or_parts, or_from, or_cases}
+use Rattle.std.proofs.Common.{◌≡◌, ℕ, zero, suc, ◌+◌, ◌<◌, ◌≤◌, ◌^◌, Bool, true, false, cond, refl, sym, ap, ◌∙◌, subst, inl, inr, eqb, arith, List, [], ◌∷◌, ◌++◌, length, get_or, set, drop, map, ◌||◌, Option, Some, None}
+use Rattle.std.proofs.lemmas.Bool.{eqb-true, cases_Bool, or_parts, or_from, or_cases}
+use Rattle.std.proofs.lemmas.Bool.Decides.{nat_tests}
 use Rattle.std.proofs.lemmas.Iterator.Adapters.{position_from-zero}
 use Rattle.std.proofs.lemmas.List.Quantifiers.{position-Some}
 use Rattle.std.proofs.lemmas.Map.Steps.{length-le_from_distinct_below}
@@ -12,34 +13,11 @@ use Rattle.unix_process.specs.declared.UnixEvent.TheVariants.{Sig, Tick, Input}
 use Rattle.unix_process.specs.declared.Taken.{Taken}
 use Rattle.unix_process.specs.Merging.{same_event, IsEvent, merged, count_of, first_of, events, is_among, IsTally, IsCounted, NothingLost, CountsAddUp, OrderStays, FirstsStay, StaysTally, StaysCounted}
 
-eqb_comm : (a b : ℕ) → eqb a b ≡ eqb b a
-eqb_comm a b =
-    elim (cases_Bool (eqb a b)) [
-      | inl is ↦ is ∙ sym (eq-eqb b a (sym (eqb-true a b is)))
-      | inr un ↦ un ∙ sym (ne_eqb b a (λ e. eqb-false a b un (sym e)))
-    ]
-
 pub same_comm : (d e : UnixEvent) → same_event d e ≡ same_event e d
-same_comm (Sig s) (Sig t) = eqb_comm s t
-same_comm (Sig s) Tick = refl
-same_comm (Sig s) Input = refl
-same_comm Tick (Sig t) = refl
-same_comm Tick Tick = refl
-same_comm Tick Input = refl
-same_comm Input (Sig t) = refl
-same_comm Input Tick = refl
-same_comm Input Input = refl
+same_comm d e = grind (arith, nat_tests)
 
 pub same_is : (d e : UnixEvent) → same_event d e ≡ true → d ≡ e
-same_is (Sig s) (Sig t) h = ap Sig (eqb-true s t h)
-same_is (Sig s) Tick h = let x : false ≡ true = h in cc
-same_is (Sig s) Input h = let x : false ≡ true = h in cc
-same_is Tick (Sig t) h = let x : false ≡ true = h in cc
-same_is Tick Tick h = refl
-same_is Tick Input h = let x : false ≡ true = h in cc
-same_is Input (Sig t) h = let x : false ≡ true = h in cc
-same_is Input Tick h = let x : false ≡ true = h in cc
-same_is Input Input h = refl
+same_is d e h = grind (arith, nat_tests)
 
 abbrev pub raised : Taken → Taken → Taken
 raised item t = record t { count = t.count + item.count }
@@ -51,82 +29,63 @@ merged_here item t ts h = rw h refl
 pub merged_later : (item t : Taken) (ts : List Taken) → same_event t.event item.event ≡ false → merged item (t ∷ ts) ≡ t ∷ merged item ts
 merged_later item t ts h = rw h refl
 
-counts_here : (item t : Taken) (c : ℕ) (e : UnixEvent) → same_event t.event e ≡ same_event item.event e
-    → cond (same_event t.event e) (t.count + item.count) 0 + c ≡ cond (same_event t.event e) t.count 0 + c + cond (same_event item.event e) item.count 0
-counts_here item t c e h =
-    elim (cases_Bool (same_event item.event e)) [
-      | inl is ↦ rw (h, is) (omega arith)
-      | inr un ↦ rw (h, un) (omega arith)
+counts_step : (item t : Taken) (ts : List Taken) (e : UnixEvent)
+    → count_of e (merged item ts) ≡ count_of e ts + cond (same_event item.event e) item.count 0
+    → count_of e (merged item (t ∷ ts)) ≡ count_of e (t ∷ ts) + cond (same_event item.event e) item.count 0
+counts_step item t ts e h =
+    elim (cases_Bool (same_event t.event item.event)) [
+      | inl is ↦ (let same = same_is t.event item.event is in rw (is, same) (counts_at (same_event item.event e)))
+      | inr un ↦ rw (un, h) (omega arith)
     ]
+  where
+    counts_at : (b : Bool) → cond b (t.count + item.count) 0 + count_of e ts ≡ cond b t.count 0 + count_of e ts + cond b item.count 0
+    counts_at b = grind arith
 
 pub counts_add_up : CountsAddUp
 counts_add_up item [] e = omega arith
-counts_add_up item (t ∷ ts) e =
-    elim (cases_Bool (same_event t.event item.event)) [
-      | inl is ↦ ap (count_of e) (merged_here item t ts is) ∙ counts_here item t (count_of e ts) e (ap (λ d. same_event d e) (same_is t.event item.event is))
-      | inr un ↦ ap (count_of e) (merged_later item t ts un) ∙ omega (arith, counts_add_up item ts e)
-    ]
+counts_add_up item (t ∷ ts) e = counts_step item t ts e (counts_add_up item ts e)
 
 pub order_stays : OrderStays
 order_stays item [] = refl
 order_stays item (t ∷ ts) =
     elim (cases_Bool (same_event t.event item.event)) [
-      | inl is ↦ ap events (merged_here item t ts is) ∙ rw is refl
-      | inr un ↦ ap events (merged_later item t ts un) ∙ ap (λ es. t.event ∷ es) (order_stays item ts) ∙ rw un (behind (is_among item.event ts))
+      | inl is ↦ rw is refl
+      | inr un ↦ rw (un, order_stays item ts) (behind (is_among item.event ts))
     ]
   where
     behind : (b : Bool) → t.event ∷ cond b (events ts) (events ts ++ item.event ∷ []) ≡ cond b (t.event ∷ events ts) (t.event ∷ (events ts ++ item.event ∷ []))
-    behind true = refl
-    behind false = refl
-
-or_none : (o : Option ℕ) → o ≡ option_or o None
-or_none None = refl
-or_none (Some x) = refl
-
-firsts_here : (item t : Taken) (o : Option ℕ) (e : UnixEvent) → same_event t.event e ≡ same_event item.event e
-    → cond (same_event t.event e) (Some t.first) o ≡ option_or (cond (same_event t.event e) (Some t.first) o) (cond (same_event item.event e) (Some item.first) None)
-firsts_here item t o e h =
-    elim (cases_Bool (same_event item.event e)) [
-      | inl is ↦ rw (h, is) refl
-      | inr un ↦ rw (h, un) (or_none o)
-    ]
+    behind b = grind arith
 
 pub firsts_stay : FirstsStay
 firsts_stay item [] e = refl
 firsts_stay item (t ∷ ts) e =
     elim (cases_Bool (same_event t.event item.event)) [
-      | inl is ↦ ap (first_of e) (merged_here item t ts is) ∙ firsts_here item t (first_of e ts) e (ap (λ d. same_event d e) (same_is t.event item.event is))
-      | inr un ↦ ap (first_of e) (merged_later item t ts un) ∙ firsts_later (first_of e (merged item ts)) (firsts_stay item ts e)
+      | inl is ↦ (let same = same_is t.event item.event is in rw (is, same) (firsts_here (same_event item.event e) (first_of e ts)))
+      | inr un ↦ rw (un, firsts_stay item ts e) (firsts_later (same_event t.event e) (first_of e ts) (cond (same_event item.event e) (Some item.first) None))
     ]
   where
-    firsts_later : (o : Option ℕ) → o ≡ option_or (first_of e ts) (cond (same_event item.event e) (Some item.first) None)
-        → cond (same_event t.event e) (Some t.first) o ≡ option_or (cond (same_event t.event e) (Some t.first) (first_of e ts)) (cond (same_event item.event e) (Some item.first) None)
-    firsts_later o h =
-        elim (cases_Bool (same_event t.event e)) [
-          | inl is ↦ rw is refl
-          | inr un ↦ rw un h
-        ]
+    firsts_here : (b : Bool) (o : Option ℕ) → cond b (Some t.first) o ≡ option_or (cond b (Some t.first) o) (cond b (Some item.first) None)
+    firsts_here b o = grind arith
 
-or_again : (a b c : Bool) → a ≡ c → a || b ≡ a || b || c
-or_again true b c h = refl
-or_again false true c h = refl
-or_again false false c h = h
-
-or_assoc : (a b c : Bool) → a || (b || c) ≡ a || b || c
-or_assoc true b c = refl
-or_assoc false b c = refl
+    firsts_later : (b : Bool) (o p : Option ℕ) → cond b (Some t.first) (option_or o p) ≡ option_or (cond b (Some t.first) o) p
+    firsts_later b o p = grind arith
 
 pub among-merged : (item : Taken) (ts : List Taken) (e : UnixEvent) → is_among e (merged item ts) ≡ is_among e ts || same_event item.event e
 among-merged item [] e = alone (same_event item.event e)
   where
     alone : (b : Bool) → b || false ≡ b
-    alone true = refl
-    alone false = refl
+    alone b = grind arith
 among-merged item (t ∷ ts) e =
     elim (cases_Bool (same_event t.event item.event)) [
-      | inl is ↦ ap (is_among e) (merged_here item t ts is) ∙ or_again (same_event t.event e) (is_among e ts) (same_event item.event e) (ap (λ d. same_event d e) (same_is t.event item.event is))
-      | inr un ↦ ap (is_among e) (merged_later item t ts un) ∙ ap (λ b. same_event t.event e || b) (among-merged item ts e) ∙ or_assoc (same_event t.event e) (is_among e ts) (same_event item.event e)
+      | inl is ↦ (let same = same_is t.event item.event is in rw (is, same) (or_again (same_event item.event e) (is_among e ts)))
+      | inr un ↦ rw (un, among-merged item ts e) (or_assoc (same_event t.event e) (is_among e ts) (same_event item.event e))
     ]
+  where
+    or_again : (a b : Bool) → a || b ≡ a || b || a
+    or_again a b = grind arith
+
+    or_assoc : (a b c : Bool) → a || (b || c) ≡ a || b || c
+    or_assoc a b c = grind arith
 
 pub stays_tally : StaysTally
 stays_tally item [] known h = (known, refl, tt)
@@ -203,28 +162,18 @@ place_of Tick = 0
 place_of Input = 32
 
 in_range : (s : ℕ) → IsInScope s → (1 ≤ s) × (s ≤ 31)
-in_range s h = (search (rules, tests), search (rules, tests))
+in_range s h = grind (arith, nat_tests)
 
 places : List Taken → List ℕ
 places ts = map (λ t. place_of t.event) ts
 
 place_below : (e : UnixEvent) → IsEvent e → place_of e < 33
 unfolding place_of
-place_below (Sig s) h = let r = in_range s h in omega arith
-place_below Tick h = omega arith
-place_below Input h = omega arith
+place_below e h = grind (arith, in_range)
 
 places_apart : (d e : UnixEvent) → IsEvent d → IsEvent e → same_event d e ≡ false → eqb (place_of e) (place_of d) ≡ false
 unfolding place_of
-places_apart (Sig s) (Sig t) g h un = eqb_comm t s ∙ un
-places_apart (Sig s) Tick g h un = let r = in_range s g in ne_eqb 0 s (λ e. omega arith)
-places_apart (Sig s) Input g h un = let r = in_range s g in ne_eqb 32 s (λ e. omega arith)
-places_apart Tick (Sig t) g h un = let r = in_range t h in ne_eqb t 0 (λ e. omega arith)
-places_apart Tick Tick g h un = let x : true ≡ false = un in cc
-places_apart Tick Input g h un = refl
-places_apart Input (Sig t) g h un = let r = in_range t h in ne_eqb t 32 (λ e. omega arith)
-places_apart Input Tick g h un = refl
-places_apart Input Input g h un = let x : true ≡ false = un in cc
+places_apart d e g h un = grind (arith, nat_tests, in_range)
 
 apart : (e : UnixEvent) (ts : List Taken) → IsEvent e → IsTally ts → is_among e ts ≡ false → AllByRecursion (λ n. eqb (place_of e) n ≡ false) (places ts)
 unfolding places

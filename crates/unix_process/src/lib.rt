@@ -51,6 +51,7 @@ pub struct Taken {
 
 /// What merging is for: the counts add up, the events keep their order and their first entries, and
 /// each stands once.
+#[tactic(auto, using(crate::proofs::MergingLemmas::counts_add_up, crate::proofs::MergingLemmas::order_stays, crate::proofs::MergingLemmas::firsts_stay, crate::proofs::MergingLemmas::stays_tally, crate::proofs::MergingLemmas::stays_counted))]
 pub fn merging()
     ensures counts { CountsAddUp }
     ensures order { OrderStays }

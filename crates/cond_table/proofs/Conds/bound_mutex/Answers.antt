@@ -1,5 +1,6 @@
 use Rattle.std.proofs.Common.{◌≡◌, ◌∙◌, ap, sym, subst, refl, arith, true, false, IsSome}
-use Rattle.cond_table.specs.ConditionMap.{conditions, mutex_of}
+use Rattle.thread_base.specs.Objects.{cond_mutex}
+use Rattle.cond_table.specs.ConditionMap.{conditions}
 use Rattle.cond_table.proofs.ConditionLemmas.{within_shown, place_read, mutex_read, no_mutex, nobody, somebody, seen}
 use Rattle.cond_table.proofs.Conds.bound_mutex.Goals as goal
 
@@ -11,7 +12,7 @@ threads-requires c =
 pub returns-then-is_empty-clause-mutex : goal.returns-then-is_empty-clause-mutex
 returns-then-is_empty-clause-mutex c =
     let empty = sym c.threads.ensures.queue ∙ nobody c.threads.result.now (sym c.is_empty.ensures ∙ c.if-is_empty.true) in
-    no_mutex c.self.inside.mutexes.items c.self.inside.waiters c.args.c empty ∙ ap (λ t. mutex_of (conditions t c.args.c)) c.self.view_is
+    no_mutex c.self.inside.mutexes.items c.self.inside.waiters c.args.c empty ∙ ap (λ t. cond_mutex (conditions t c.args.c)) c.self.view_is
 
 pub returns-then-is_empty-clause-empty : goal.returns-then-is_empty-clause-empty
 returns-then-is_empty-clause-empty c =
@@ -23,7 +24,7 @@ returns-else-is_empty-clause-mutex c =
     let place = (within_shown c.self.inside.mutexes.items c.self.inside.waiters c.args.self.now c.self.view_is c.args.c c.requires) in
     mutex_read c.self.inside.mutexes.items c.self.inside.waiters c.args.c c.index.result.now c.index.ensures place
     (λ empty. somebody c.threads.result.now (sym c.is_empty.ensures ∙ c.if-is_empty.false) (c.threads.ensures.queue ∙ empty))
-    ∙ ap (λ t. mutex_of (conditions t c.args.c)) c.self.view_is
+    ∙ ap (λ t. cond_mutex (conditions t c.args.c)) c.self.view_is
 
 pub returns-else-is_empty-clause-empty : goal.returns-else-is_empty-clause-empty
 returns-else-is_empty-clause-empty c =

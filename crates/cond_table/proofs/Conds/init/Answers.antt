@@ -1,6 +1,7 @@
 use Rattle.std.proofs.Common.{◌∙◌, ap, sym, subst, arith, Some, IsNone, length, ◌<◌}
 use Rattle.thread_base.specs.Maps.{put}
-use Rattle.cond_table.specs.ConditionMap.{conditions, condition_of, new_condition}
+use Rattle.thread_base.specs.Objects.{new_condition}
+use Rattle.cond_table.specs.ConditionMap.{conditions, condition_of}
 use Rattle.cond_table.proofs.ConditionLemmas.{mutexes_set, fresh_queue}
 use Rattle.cond_table.proofs.Conds.init.Goals as goal
 

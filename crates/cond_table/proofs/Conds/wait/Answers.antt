@@ -2,7 +2,8 @@ use Rattle.std.proofs.Common.{◌≡◌, ◌∙◌, ap, sym, subst, arith, Some,
 use Rattle.std.specs.Option.{ForSome}
 use Rattle.thread_base.specs.Maps.{put}
 use Rattle.tid_list.specs.Waiting.{StandsInNone, AreApart}
-use Rattle.cond_table.specs.ConditionMap.{conditions, mutex_of, joined_by}
+use Rattle.thread_base.specs.Objects.{cond_mutex, entered}
+use Rattle.cond_table.specs.ConditionMap.{conditions}
 use Rattle.cond_table.proofs.ConditionLemmas.{within_shown, joined_set, sound_joined, waiting_is, seen}
 use Rattle.cond_table.proofs.Conds.wait.Goals as goal
 
@@ -30,10 +31,10 @@ pub returns-clause-conditions : goal.returns-clause-conditions
 returns-clause-conditions c =
     joined_set c.self.inside.mutexes.items c.self.inside.waiters c.push.new.self c.args.c c.args.t c.args.m
     (subst (λ t. IsSome (conditions t c.args.c)) (sym c.self.view_is) c.requires.exists)
-    (subst (λ t. ForSome (mutex_of (conditions t c.args.c)) (λ n. n ≡ c.args.m)) (sym c.self.view_is) c.requires.bound)
+    (subst (λ t. ForSome (cond_mutex (conditions t c.args.c)) (λ n. n ≡ c.args.m)) (sym c.self.view_is) c.requires.bound)
     (within_shown c.self.inside.mutexes.items c.self.inside.waiters c.args.self.now c.self.view_is c.args.c c.requires.exists)
     c.push.ensures.queues
-    ∙ ap (λ t. put (conditions t) c.args.c (joined_by c.args.t c.args.m (conditions t c.args.c))) c.self.view_is
+    ∙ ap (λ t. put (conditions t) c.args.c (entered c.args.t c.args.m (conditions t c.args.c))) c.self.view_is
 
 pub returns-clause-apart : goal.returns-clause-apart
 returns-clause-apart c =

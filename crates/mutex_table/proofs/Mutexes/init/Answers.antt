@@ -2,7 +2,8 @@ use Rattle.std.proofs.Common.{◌∙◌, ap, sym, subst, arith, ◌<◌, length,
 use Rattle.thread_base.specs.declared.mutex.Holder.TheVariants.{Free}
 use Rattle.thread_base.specs.Maps.{put}
 use Rattle.mutex_table.specs.declared.Look.{Look}
-use Rattle.mutex_table.specs.MutexMap.{mutexes, mutex_of, free_mutex}
+use Rattle.thread_base.specs.Objects.{free_mutex}
+use Rattle.mutex_table.specs.MutexMap.{mutexes, mutex_of}
 use Rattle.mutex_table.proofs.MutexLemmas.{looks_set, fresh_queue}
 use Rattle.mutex_table.proofs.Mutexes.init.Goals as goal
 

@@ -1,6 +1,7 @@
 use Rattle.std.proofs.Common.{◌≡◌, ◌∙◌, ap, subst, sym, ℕ, ◌≤◌, ◌-◌, false, find, IfNone}
 use Rattle.std.specs.List.{range_with_len}
-use Rattle.mutex_table.specs.MutexMap.{mutexes, is_owned_by}
+use Rattle.thread_base.specs.Objects.{is_owned_by}
+use Rattle.mutex_table.specs.MutexMap.{mutexes}
 use Rattle.mutex_table.proofs.MutexLemmas.{none_owned}
 use Rattle.mutex_table.proofs.Mutexes.next_owned.Goals as goal
 

@@ -1,6 +1,7 @@
 use Rattle.std.proofs.Common.{◌≡◌, ◌∙◌, ap, sym, arith, Some}
 use Rattle.thread_base.specs.Maps.{put}
-use Rattle.mutex_table.specs.MutexMap.{mutexes, look_of, with_holder}
+use Rattle.thread_base.specs.Objects.{with_holder}
+use Rattle.mutex_table.specs.MutexMap.{mutexes, look_of}
 use Rattle.mutex_table.proofs.MutexLemmas.{looks_set, within_shown, held}
 use Rattle.mutex_table.proofs.Mutexes.put_holder.Goals as goal
 

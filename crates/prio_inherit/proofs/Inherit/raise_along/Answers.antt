@@ -1,7 +1,7 @@
-use Rattle.std.proofs.Common.{◌≡◌, ◌∙◌, sym, ℕ, Option, None, arith}
+use Rattle.std.proofs.Common.{ℕ, Option, None, arith}
 use Rattle.thread_base.specs.Maps.{numbered}
 use Rattle.thread_base.specs.Numbers.{IsTid}
-use Rattle.thread_base.proofs.MapLemmas.{numbered_read}
+use Rattle.thread_base.proofs.MapLemmas.{numbered_get}
 use Rattle.prio_inherit.specs.Stored.{own_of, edge_of, prio_of}
 use Rattle.prio_inherit.proofs.SetLemmas.{changed_both}
 use Rattle.prio_inherit.proofs.ChangeLemmas.{risen}
@@ -17,11 +17,11 @@ returns-clause-prio c =
     let t : ℕ = c.args.t in
     let i : ℕ = c.index-index.result in
     let range : IsTid t = (omega arith, omega arith) in
-    let p_is : c.index-self-index.result ≡ own t = numbered_read 0 c.index-self-index.result c.args.self.now.own i t c.index-self-index.is c.index-index.ensures.value (omega arith) in
-    let to_is : c.index-self-index-2.result ≡ edge t = numbered_read None c.index-self-index-2.result c.args.self.now.edges i t c.index-self-index-2.is c.index-index.ensures.value (omega arith) in
-    let q_is : c.index-self-index-3.result ≡ mid t = numbered_read 0 c.index-self-index-3.result c.raise-by_own.new.prios i t c.index-self-index-3.is c.index-index.ensures.value (omega arith) in
+    let p_is = numbered_get 0 c.index-self-index.result c.args.self.now.own i t c.index-index.ensures.value (omega arith) in
+    let to_is = numbered_get None c.index-self-index-2.result c.args.self.now.edges i t c.index-index.ensures.value (omega arith) in
+    let q_is = numbered_get 0 c.index-self-index-3.result c.raise-by_own.new.prios i t c.index-index.ensures.value (omega arith) in
     risen own edge prio t c.requires.own_before c.requires.edge_before c.args.self.now.within range c.requires.raised c.requires.added c.requires.effective
-    mid (numbered 0 c.raise-by_edge.new.prios) _ _ _ (sym c.index-self-index.is ∙ p_is) (sym c.index-self-index-3.is ∙ q_is) (sym c.index-self-index-2.is ∙ to_is) c.raise-by_own.ensures.raised c.raise-by_edge.ensures.raised
+    mid (numbered 0 c.raise-by_edge.new.prios) _ _ _ p_is q_is to_is c.raise-by_own.ensures.raised c.raise-by_edge.ensures.raised
 
 pub returns-clause-answer : goal.returns-clause-answer
 unfolding prio_of

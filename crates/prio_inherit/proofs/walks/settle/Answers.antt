@@ -1,6 +1,6 @@
-use Rattle.std.proofs.Common.{◌≡◌, ◌∙◌, ◌+◌, sym, refl, rules, ℕ, Option, None, arith}
+use Rattle.std.proofs.Common.{◌+◌, refl, rules, ℕ, Option, None, arith}
 use Rattle.thread_base.specs.Maps.{numbered}
-use Rattle.thread_base.proofs.MapLemmas.{numbered_read}
+use Rattle.thread_base.proofs.MapLemmas.{numbered_get}
 use Rattle.prio_inherit.proofs.SettleLemmas.{settling_first, settling_on, settled}
 use Rattle.prio_inherit.proofs.walks.settle.Goals as goal
 
@@ -12,14 +12,13 @@ loop-index-preserved c =
     let n : ℕ = c.loop-index.index in
     let edge : ℕ → Option ℕ = numbered None c.args.edges.now in
     let cur : ℕ → ℕ = numbered 0 c.loop-index.prios in
-    let priority : c.index-prios-index.result ≡ cur (n + 1) = numbered_read 0 c.index-prios-index.result c.loop-index.prios n (n + 1) c.index-prios-index.is refl (omega arith) in
-    let first : c.index-edges-index.result ≡ edge (n + 1) = numbered_read None c.index-edges-index.result c.args.edges.now n (n + 1) c.index-edges-index.is refl (omega arith) in
+    let priority = numbered_get 0 c.index-prios-index.result c.loop-index.prios n (n + 1) refl (omega arith) in
+    let first = numbered_get None c.index-edges-index.result c.args.edges.now n (n + 1) refl (omega arith) in
     record {
       sized = c.raise.ensures.sized;
       settling = settling_on edge (numbered 0 c.args.prios.now) cur (numbered 0 c.raise.new.prios) n _ _ (omega arith)
-          (sym c.index-prios-index.is ∙ priority) (sym c.index-edges-index.is ∙ first) c.raise.ensures.raised c.loop-index.invariant.settling;
+          priority first c.raise.ensures.raised c.loop-index.invariant.settling;
     }
 
 pub returns-clause-effective : goal.returns-clause-effective
-returns-clause-effective c =
-    settled (numbered None c.args.edges.now) (numbered 0 c.args.prios.now) (numbered 0 c.loop-index.prios) c.loop-index.index c.requires (omega arith) c.loop-index.invariant.settling
+returns-clause-effective c = settled _ _ _ c.loop-index.index c.requires (omega arith) c.loop-index.invariant.settling

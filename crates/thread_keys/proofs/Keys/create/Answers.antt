@@ -16,38 +16,21 @@ index_mut-requires c =
     let limit : c.in_ok-k.k < 128 = within_limit (destructor_of c.args.self.now) c.in_ok-k.k found in
     first_of (omega (arith, c.self.invariant), search rules, grind (arith, common_steps))
 
-pub returns-clause-fresh : goal.returns-clause-fresh
-returns-clause-fresh c =
-    let found : Some c.in_ok-k.k ≡ free_key (destructor_of c.args.self.now) = search rules in
-    fresh_none (destructor_of c.args.self.now) c.in_ok-k.k found
-
-pub returns-clause-full : goal.returns-clause-full
-returns-clause-full c =
-    let found : Some c.in_ok-k.k ≡ free_key (destructor_of c.args.self.now) = search rules in
-    full_numbers (destructor_of c.args.self.now) (Some c.in_ok-k.k) found
-
-pub returns-clause-destructors : goal.returns-clause-destructors
-returns-clause-destructors c =
-    let found : Some c.in_ok-k.k ≡ free_key (destructor_of c.args.self.now) = search rules in
-    let limit : c.in_ok-k.k < 128 = within_limit (destructor_of c.args.self.now) c.in_ok-k.k found in
-    let within : c.in_ok-k.k < length c.self.inside.keys.items = omega (arith, c.self.invariant, limit) in
-    destructor_put c.self.inside.keys.items c.in_ok-k.k c.new.result c.args.destructor within c.new.ensures.destructor
-    ∙ ap (λ v. put (destructor_of v) c.in_ok-k.k (Some c.args.destructor)) c.self.view_is
-
-pub returns-clause-zero : goal.returns-clause-zero
-returns-clause-zero c = λ t.
-    let found : Some c.in_ok-k.k ≡ free_key (destructor_of c.args.self.now) = search rules in
-    let limit : c.in_ok-k.k < 128 = within_limit (destructor_of c.args.self.now) c.in_ok-k.k found in
-    let within : c.in_ok-k.k < length c.self.inside.keys.items = omega (arith, c.self.invariant, limit) in
-    let gone : destructor_of c.self.inside.keys.items c.in_ok-k.k ≡ None =
-    ap (λ v. destructor_of v c.in_ok-k.k) c.self.view_is ∙ fresh_number (destructor_of c.args.self.now) c.in_ok-k.k found in
-    value_made c.self.inside.keys.items c.in_ok-k.k c.new.result t within gone c.new.ensures.values
-
-pub returns-clause-values : goal.returns-clause-values
-returns-clause-values c =
-    let found : Some c.in_ok-k.k ≡ free_key (destructor_of c.args.self.now) = search rules in
-    let limit : c.in_ok-k.k < 128 = within_limit (destructor_of c.args.self.now) c.in_ok-k.k found in
-    let within : c.in_ok-k.k < length c.self.inside.keys.items = omega (arith, c.self.invariant, limit) in
-    let gone : destructor_of c.self.inside.keys.items c.in_ok-k.k ≡ None =
-    ap (λ v. destructor_of v c.in_ok-k.k) c.self.view_is ∙ fresh_number (destructor_of c.args.self.now) c.in_ok-k.k found in
-    values_made c.self.inside.keys.items c.in_ok-k.k c.new.result within gone c.new.ensures.values ∙ ap value_of c.self.view_is
+pub returns : goal.returns
+returns c =
+    let keys = c.self.inside.keys.items in
+    let k = c.in_ok-k.k in
+    let map = destructor_of c.args.self.now in
+    let found : Some k ≡ free_key map = search rules in
+    let limit : k < 128 = within_limit map k found in
+    let within : k < length keys = omega (arith, c.self.invariant, limit) in
+    let gone : destructor_of keys k ≡ None = ap (λ v. destructor_of v k) c.self.view_is ∙ fresh_number map k found in
+    record {
+      number = search rules;
+      fresh = fresh_none map k found;
+      full = full_numbers map (Some k) found;
+      destructors = destructor_put keys k c.new.result c.args.destructor within c.new.ensures.destructor
+          ∙ ap (λ v. put (destructor_of v) k (Some c.args.destructor)) c.self.view_is;
+      zero = λ t. value_made keys k c.new.result t within gone c.new.ensures.values;
+      values = values_made keys k c.new.result within gone c.new.ensures.values ∙ ap value_of c.self.view_is;
+    }

@@ -10,20 +10,8 @@ returns-in_err-k-clause-none c =
     let both = due_none (destructor_of c.args.self.now) (value_of c.args.self.now) c.args.t c.args.from None found in
     (λ h. both.0 refl, λ h. none)
 
-pub returns-in_err-destructor-clause-call : goal.returns-in_err-destructor-clause-call
-returns-in_err-destructor-clause-call c =
-    let found : Some c.in_ok-k.k ≡ due_key (destructor_of c.args.self.now) (value_of c.args.self.now) c.args.t c.args.from = search rules in
-    let gone : destructor_of c.args.self.now c.in_ok-k.k ≡ None = search rules in
-    absurd (due_exists (destructor_of c.args.self.now) (value_of c.args.self.now) c.args.t c.args.from c.in_ok-k.k found gone)
-
-pub returns-in_err-destructor-clause-none : goal.returns-in_err-destructor-clause-none
-returns-in_err-destructor-clause-none c =
-    let found : Some c.in_ok-k.k ≡ due_key (destructor_of c.args.self.now) (value_of c.args.self.now) c.args.t c.args.from = search rules in
-    let gone : destructor_of c.args.self.now c.in_ok-k.k ≡ None = search rules in
-    absurd (due_exists (destructor_of c.args.self.now) (value_of c.args.self.now) c.args.t c.args.from c.in_ok-k.k found gone)
-
-pub returns-in_err-destructor-clause-values : goal.returns-in_err-destructor-clause-values
-returns-in_err-destructor-clause-values c =
+pub returns-in_err-destructor : goal.returns-in_err-destructor
+returns-in_err-destructor c =
     let found : Some c.in_ok-k.k ≡ due_key (destructor_of c.args.self.now) (value_of c.args.self.now) c.args.t c.args.from = search rules in
     let gone : destructor_of c.args.self.now c.in_ok-k.k ≡ None = search rules in
     absurd (due_exists (destructor_of c.args.self.now) (value_of c.args.self.now) c.args.t c.args.from c.in_ok-k.k found gone)

@@ -1,7 +1,7 @@
 use Rattle.std.proofs.Common.{◌≡◌, ◌∙◌, ℕ, Some, None, sym, ap, arith, set, get_or, get_or-set_same}
 use Rattle.thread_base.specs.Maps.{put, numbered}
-use Rattle.thread_base.proofs.MapLemmas.{numbered_read}
-use Rattle.prio_inherit.specs.Stored.{own_of, edge_of, prio_of}
+use Rattle.thread_base.proofs.MapLemmas.{numbered_get}
+use Rattle.prio_inherit.specs.Stored.{own_of, edge_of}
 use Rattle.prio_inherit.proofs.MirrorLemmas.{mirror_set}
 use Rattle.prio_inherit.proofs.AfterLemmas.{edge_added, edge_removed}
 use Rattle.prio_inherit.proofs.tests.Waits.lead.Goals as goal
@@ -11,8 +11,7 @@ use Rattle.prio_inherit.proofs.tests.Waits.lead.Goals.{After-set_edge}
 led : (c : After-set_edge) → edge_of c.args.self.now.table c.args.t ≡ get_or c.args.self.now.edges c.index-index.result c.index-edges-index.result
 led c =
     c.args.self.now.edge_is c.args.t
-    ∙ sym (numbered_read None c.index-edges-index.result c.args.self.now.edges c.index-index.result c.args.t c.index-edges-index.is c.index-index.ensures.value (omega arith))
-    ∙ c.index-edges-index.is
+    ∙ sym (numbered_get None _ c.args.self.now.edges c.index-index.result c.args.t c.index-index.ensures.value (omega arith))
 
 -- the edge that was read back
 back : (c : After-set_edge) → get_or (set c.args.self.now.edges c.index-index.result c.args.to) c.index-index.result c.index-edges-index-3.result ≡ c.args.to
@@ -28,14 +27,12 @@ owns_are c = λ u. (λ k. c.set_edge.ensures.own k u) ∙ c.args.self.now.own_is
 pub raise_along-requires : goal.raise_along-requires
 raise_along-requires c =
     rw (c.set_edge.ensures.own, c.set_edge.ensures.edge, c.set_edge.ensures.prio)
-    (edge_added (own_of c.args.self.now.table) (edge_of c.args.self.now.table) (prio_of c.args.self.now.table) c.args.t c.args.self.now.effective _
-    (led (goal.at.raise_along-requires c).After-set_edge ∙ c.in-None.is))
+    (edge_added _ _ _ c.args.t c.args.self.now.effective _ (led (goal.at.raise_along-requires c).After-set_edge ∙ c.in-None.is))
 
 pub lower_along-requires : goal.lower_along-requires
 lower_along-requires c =
     rw (c.set_edge.ensures.own, c.set_edge.ensures.edge, c.set_edge.ensures.prio)
-    (edge_removed (own_of c.args.self.now.table) (edge_of c.args.self.now.table) (prio_of c.args.self.now.table) c.args.t c.args.self.now.effective _ (Some c.in-Some.old)
-    (led (goal.at.lower_along-requires c).After-set_edge ∙ c.in-Some.is))
+    (edge_removed _ _ _ c.args.t c.args.self.now.effective _ (Some c.in-Some.old) (led (goal.at.lower_along-requires c).After-set_edge ∙ c.in-Some.is))
 
 pub invariant_of-self : goal.invariant_of-self
 invariant_of-self c = record {

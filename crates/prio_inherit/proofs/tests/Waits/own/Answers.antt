@@ -1,24 +1,19 @@
-use Rattle.std.proofs.Common.{◌≡◌, ◌∙◌, ◌≤◌, ℕ, None, sym, arith}
+use Rattle.std.proofs.Common.{◌∙◌, ◌≤◌, None, arith}
 use Rattle.thread_base.proofs.MapLemmas.{numbered_read}
-use Rattle.prio_inherit.specs.Stored.{own_of, edge_of, prio_of}
+use Rattle.prio_inherit.specs.Stored.{own_of}
 use Rattle.prio_inherit.proofs.MirrorLemmas.{mirror_set}
 use Rattle.prio_inherit.proofs.AfterLemmas.{own_raised, own_lowered}
 use Rattle.prio_inherit.proofs.tests.Waits.own.Goals as goal
 
 pub raise_along-requires : goal.raise_along-requires
 raise_along-requires c =
-    let own : ℕ → ℕ = own_of c.args.self.now.table in
-    let was : c.index-self-index.result ≡ own c.args.t =
-    numbered_read 0 c.index-self-index.result c.args.self.now.own c.index-index.result c.args.t c.index-self-index.is c.index-index.ensures.value (omega arith)
-    ∙ sym (c.args.self.now.own_is c.args.t) in
-    let higher : own c.args.t ≤ c.args.p = omega (arith, was) in
-    rw (c.set_own.ensures.own, c.set_own.ensures.edge, c.set_own.ensures.prio)
-    (own_raised own (edge_of c.args.self.now.table) (prio_of c.args.self.now.table) c.args.t c.args.self.now.effective c.args.p higher)
+    let was = numbered_read 0 _ c.args.self.now.own _ c.args.t c.index-self-index.is c.index-index.ensures.value (omega arith) in
+    let higher : own_of c.args.self.now.table c.args.t ≤ c.args.p = omega (arith, was, c.args.self.now.own_is c.args.t) in
+    rw (c.set_own.ensures.own, c.set_own.ensures.edge, c.set_own.ensures.prio) (own_raised _ _ _ c.args.t c.args.self.now.effective c.args.p higher)
 
 pub lower_along-requires : goal.lower_along-requires
 lower_along-requires c =
-    rw (c.set_own.ensures.own, c.set_own.ensures.edge, c.set_own.ensures.prio)
-    (own_lowered (own_of c.args.self.now.table) (edge_of c.args.self.now.table) (prio_of c.args.self.now.table) c.args.t c.args.self.now.effective c.args.p None)
+    rw (c.set_own.ensures.own, c.set_own.ensures.edge, c.set_own.ensures.prio) (own_lowered _ _ _ c.args.t c.args.self.now.effective c.args.p None)
 
 pub invariant_of-self : goal.invariant_of-self
 invariant_of-self c = record {
