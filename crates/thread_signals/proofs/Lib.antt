@@ -1,0 +1,6 @@
+mod AnswerLemmas
+mod DeliveryLemmas
+mod SoundLemmas
+mod SumLemmas
+mod TableLemmas
+mod WordLemmas
