@@ -1,311 +1,293 @@
--- Each change of which moves are made keeps a good state good.
-use Rattle.std.proofs.Common.{◌≡◌, ◌≢◌, ◌∙◌, ap, sym, refl, subst, inl, inr, ◌⊎◌, ℕ, true, false, eqb, List, [], ◌∷◌, ◌++◌, Option, None}
-use Rattle.std.specs.Prelude.{is_some}
-use Rattle.std.proofs.lemmas.Bool.{cases_eq, eqb-true}
+-- Goodness by its facets, and each change of which moves are made and that leaves mutexes and conditions as they are.
+use Rattle.std.proofs.Common.{◌≡◌, ◌∙◌, ap, sym, refl, subst, ℕ, Bool, true, false, List, Option, None}
+use Rattle.std.proofs.lemmas.Bool.{eqb-true}
 use Rattle.thread_base.specs.Maps.{put}
 use Rattle.thread_base.specs.Numbers.{IsTid}
-use Rattle.thread_base.specs.Orders.{is_in, without, IsOrder}
+use Rattle.thread_base.specs.Objects.{behind}
+use Rattle.thread_base.specs.Orders.{without}
 use Rattle.thread_base.specs.Priority.{tids}
-use Rattle.thread_base.proofs.OrderLemmas.{IsOrder-push, IsOrder-filter, not_in-without, within, is_in-without, is_in-push, is_in-pushed, is_in-to_end}
+use Rattle.thread_base.proofs.MapLemmas.{map_put, put_got, kept}
+use Rattle.thread_base.proofs.OrderLemmas.{IsOrder-push, IsOrder-filter, not_in-without, is_in-to_end}
 use Rattle.thread_base.proofs.SearchLemmas.{in_tids, find_none, any_none}
-use Rattle.posix_model.specs.State.{State, Thread, Mutex, Condition, Ready, Waits, is_absent, is_ready, is_live, joins, wants, waits_on, mutex_with, count_due}
-use Rattle.posix_model.specs.Changes.{Made, set_thread, append, to_end, await, reply, with_reply, answer}
+use Rattle.posix_model.specs.State.{State, Thread, Mutex, Condition, Standing, Absent, Ready, Waits, EndOf, MutexAt, ConditionAt, aim, target, is_target, no_thread, is_absent, is_ready, is_live, joins, wants, waits_on, count_due}
+use Rattle.posix_model.specs.Changes.{Outcome, set_thread, append, to_end, await, reply, with_reply, answer}
 use Rattle.posix_model.specs.Threads.{joiner, has_joiner}
-use Rattle.posix_model.specs.Mutexes.{holder_in, waiters_in, orphaned}
-use Rattle.posix_model.specs.Good.{IsGood, MayJoin, IsSoundMutex, IsSoundCondition, IsCount}
+use Rattle.posix_model.specs.Leaving.{without_thread}
+use Rattle.posix_model.specs.Good.{standings, detachments, IsReadyList, AreWithin, MayJoin, AreJoining, AreSoundMutexes, AreSoundConditions, IsCount, AreCounts, IsGood}
+use Rattle.posix_model.specs.declared.Wait.{Wait}
 use Rattle.posix_model.specs.declared.Wait.TheVariants.{Join}
-use Rattle.posix_model.proofs.StandingLemmas.{never, ready_live, ready_joins, ready_wants, ready_waits_on, joins_waits, joins_wants, joins_waits_on, dead_wants, dead_waits_on, once, dead_once, at_same, at_other, kept}
-use Rattle.posix_model.proofs.MutexLemmas.{with_thread, sound_alike, sound_with, sound_orphaned}
-use Rattle.posix_model.proofs.ConditionLemmas.{condition_alike, condition_apart, orphan_there, counted_with}
+use Rattle.posix_model.proofs.StandingLemmas.{never, ready_live, ready_target, ready_wants, ready_waits_on, target_is, waiting, once, dead}
+use Rattle.posix_model.proofs.ListLemmas.{each_put, listed_on, listed_behind, listed_without}
+use Rattle.posix_model.proofs.MutexLemmas.{mutexes_stay, mutexes_orphaned}
+use Rattle.posix_model.proofs.ConditionLemmas.{conditions_on, conditions_apart, stay_orphaned}
 
--- states that agree on the ready list, the mutexes, the conditions and each thread's standing and detachment are good together
-pub good_alike : (s r : State) → r.ready ≡ s.ready → r.mutexes ≡ s.mutexes → r.conditions ≡ s.conditions → ((u : ℕ) → (r.threads u).standing ≡ (s.threads u).standing)
-    → ((u : ℕ) → (r.threads u).detached ≡ (s.threads u).detached) → IsGood s → IsGood r
-good_alike s r ready mutexes conditions standing detached good = record {
-  order = subst IsOrder (sym ready) good.order;
-  listed = λ t. ap (is_in t) ready ∙ good.listed t ∙ ap is_ready (sym (standing t));
-  within = λ t h. good.within t (ap is_absent (sym (standing t)) ∙ h);
-  joining = λ t u h.
-      (let may = good.joining t u (ap (joins u) (sym (standing t)) ∙ h) in
-      record {
-        live = ap is_live (standing u) ∙ may.live;
-        joinable = detached u ∙ may.joinable;
-        alone = λ v k. may.alone v (ap (joins u) (sym (standing v)) ∙ k);
-      });
-  sound = λ m.
-      sound_alike s r m
-      (ap (λ (f : ℕ → Option Mutex). holder_in (f m)) mutexes) (ap (λ (f : ℕ → Option Mutex). waiters_in (f m)) mutexes)
-      (λ u. ap (wants m) (standing u))
-      (λ u h live. ap is_live (standing u) ∙ live)
-      (good.sound m);
-  conditions = λ c.
-      subst (IsSoundCondition r c) (sym (ap (λ (f : ℕ → Option Condition). f c) conditions))
-      (condition_alike s r c (s.conditions c)
-      (λ u. ap (waits_on c) (standing u)) (λ u h. ap mutex_with (standing u))
-      (λ m e h. ap (λ (f : ℕ → Option Mutex). is_some (f m)) mutexes ∙ h)
-      (good.conditions c));
-  counted = λ t. subst (λ st. IsCount (count_due st)) (sym (standing t)) (good.counted t);
+-- goodness over what the facets read
+pub record AreGood (standing : ℕ → Standing) (detached : ℕ → Bool) (list : List ℕ) (mutex : ℕ → Option Mutex) (condition : ℕ → Option Condition) : Type 0 where
+  pub ready : IsReadyList standing list
+  pub within : AreWithin standing
+  pub joining : AreJoining standing detached
+  pub mutexes : AreSoundMutexes standing mutex
+  pub conditions : AreSoundConditions standing mutex condition
+  pub counts : AreCounts standing
+
+-- a state is good by what its threads are doing and which are detached
+good_by : (r : State) (standing : ℕ → Standing) (detached : ℕ → Bool) → standings r ≡ standing → detachments r ≡ detached
+    → AreGood standing detached r.ready r.mutexes r.conditions → IsGood r
+good_by r standing detached a b good = record {
+  ready = subst (λ f. IsReadyList f r.ready) (sym a) good.ready;
+  within = subst AreWithin (sym a) good.within;
+  joining = subst (λ f. AreJoining f (detachments r)) (sym a) (subst (AreJoining standing) (sym b) good.joining);
+  mutexes = subst (λ f. AreSoundMutexes f r.mutexes) (sym a) good.mutexes;
+  conditions = subst (λ f. AreSoundConditions f r.mutexes r.conditions) (sym a) good.conditions;
+  counts = subst AreCounts (sym a) good.counts;
 }
 
--- a thread's record changes, but for its standing and its detachment
-pub good_set : (s : State) (t : ℕ) (thread : Thread) → thread.standing ≡ (s.threads t).standing → thread.detached ≡ (s.threads t).detached
-    → IsGood s → IsGood (set_thread s t thread)
-good_set s t thread standing detached good =
-    good_alike s (set_thread s t thread) refl refl refl
-    (λ u. kept (λ (x : Thread). x.standing) s.threads t u thread standing)
-    (λ u. kept (λ (x : Thread). x.detached) s.threads t u thread detached)
+-- where each thread does what it did, the other facets are given
+pub good_alike : (s r : State) → standings r ≡ standings s → IsGood s → IsReadyList (standings s) r.ready → AreJoining (standings s) (detachments r)
+    → AreSoundMutexes (standings s) r.mutexes → AreSoundConditions (standings s) r.mutexes r.conditions → IsGood r
+good_alike s r same good ready joining sound agreed =
+    good_by r (standings s) (detachments r) same refl
+    (record {
+      ready = ready;
+      within = good.within;
+      joining = joining;
+      mutexes = sound;
+      conditions = agreed;
+      counts = good.counts;
+    })
+
+-- one thread changes, and the rest of the state
+pub good_change : (s : State) (t : ℕ) (thread : Thread) (r : State) → r.threads ≡ put s.threads t thread
+    → AreGood (put (standings s) t thread.standing) (put (detachments s) t thread.detached) r.ready r.mutexes r.conditions → IsGood r
+good_change s t thread r e good =
+    let standing = λ (x : Thread). x.standing in
+    let detached = λ (x : Thread). x.detached in
+    good_by r (put (standings s) t thread.standing) (put (detachments s) t thread.detached)
+    (ap {B = ℕ → Standing} (λ (f : ℕ → Thread) u. standing (f u)) e ∙ map_put standing s.threads t thread)
+    (ap {B = ℕ → Bool} (λ (f : ℕ → Thread) u. detached (f u)) e ∙ map_put detached s.threads t thread)
     good
+
+-- a thread changes, but not what it is doing nor whether it is detached
+pub good_set : (s : State) (t : ℕ) (thread : Thread) → thread.standing ≡ standings s t → thread.detached ≡ detachments s t → IsGood s → IsGood (set_thread s t thread)
+good_set s t thread standing detached good =
+    good_alike s (set_thread s t thread) (λ i u. kept (λ (x : Thread). x.standing) s.threads t u thread standing i) good good.ready
+    (subst (AreJoining (standings s)) (λ i u. sym (kept (λ (x : Thread). x.detached) s.threads t u thread detached) i) good.joining)
+    good.mutexes good.conditions
 
 pub good_reply : (s : State) (t error value : ℕ) → IsGood s → IsGood (reply s t error value)
 good_reply s t error value good = good_set s t (with_reply (s.threads t) error value) refl refl good
 
--- a thread's record, the ready list, the mutexes and the conditions change, and the thread waits for no end
-module _ (s : State) (t : ℕ) (thread : Thread) (ready : List ℕ) (mutexes : ℕ → Option Mutex) (conditions : ℕ → Option Condition) (good : IsGood s) (order : IsOrder ready)
-    (others : (u : ℕ) → u ≢ t → is_in u ready ≡ is_in u s.ready) (mine : is_in t ready ≡ is_ready thread.standing)
-    (inside : is_absent thread.standing ≡ false → IsTid t) (idle : (u : ℕ) → joins u thread.standing ≡ false)
-    (open_to : (v : ℕ) → v ≢ t → joins t (s.threads v).standing ≡ true → (is_live thread.standing ≡ true) × (thread.detached ≡ false))
-    (sound : (m : ℕ) → IsSoundMutex (with_thread s t thread ready mutexes conditions) m)
-    (agreed : (c : ℕ) → IsSoundCondition (with_thread s t thread ready mutexes conditions) c (conditions c)) (many : IsCount (count_due thread.standing)) where
-  listed_after : (u : ℕ) → is_in u ready ≡ is_ready (put s.threads t thread u).standing
-  listed_after u =
-      elim (cases_eq u t) [
-        | inl same ↦ ap (λ v. is_in v ready) same ∙ mine ∙ sym (at_same (λ (x : Thread). is_ready x.standing) s.threads t u thread same)
-        | inr other ↦ others u other ∙ good.listed u ∙ sym (at_other (λ (x : Thread). is_ready x.standing) s.threads t u thread other)
-      ]
+-- the ready list, the numbers and the counts, where one thread changes
+module _ (standing : ℕ → Standing) (t : ℕ) (st : Standing) where
+  pub ready_on : (list : List ℕ) → is_ready st ≡ is_ready (standing t) → IsReadyList standing list → IsReadyList (put standing t st) list
+  ready_on list same sound = record { order = sound.order; listed = listed_on is_ready standing t st list sound.listed same }
 
-  within_after : (u : ℕ) → is_absent (put s.threads t thread u).standing ≡ false → IsTid u
-  within_after u h =
-      elim (cases_eq u t) [
-        | inl same ↦ subst IsTid (sym same) (inside (sym (at_same (λ (x : Thread). is_absent x.standing) s.threads t u thread same) ∙ h))
-        | inr other ↦ good.within u (sym (at_other (λ (x : Thread). is_absent x.standing) s.threads t u thread other) ∙ h)
-      ]
-
-  -- who joined before joins now, and is another thread
-  before : (v u : ℕ) → joins u (put s.threads t thread v).standing ≡ true → (v ≢ t) × (joins u (s.threads v).standing ≡ true)
-  before v u h =
-      elim (cases_eq v t) [
-        | inl same ↦ absurd (never (joins u (put s.threads t thread v).standing) h (at_same (λ (x : Thread). joins u x.standing) s.threads t v thread same ∙ idle u))
-        | inr other ↦ (other, sym (at_other (λ (x : Thread). joins u x.standing) s.threads t v thread other) ∙ h)
-      ]
-
-  joined_after : (v u : ℕ) → v ≢ t → joins u (s.threads v).standing ≡ true
-      → (is_live (put s.threads t thread u).standing ≡ true) × ((put s.threads t thread u).detached ≡ false)
-  joined_after v u ne h =
-      elim (cases_eq u t) [
-        | inl same ↦
-            (let may = open_to v ne (subst (λ w. joins w (s.threads v).standing ≡ true) same h) in (
-              at_same (λ (x : Thread). is_live x.standing) s.threads t u thread same ∙ may.0,
-              at_same (λ (x : Thread). x.detached) s.threads t u thread same ∙ may.1,
-            ))
-        | inr other ↦
-            (let may = good.joining v u h in (
-              at_other (λ (x : Thread). is_live x.standing) s.threads t u thread other ∙ may.live,
-              at_other (λ (x : Thread). x.detached) s.threads t u thread other ∙ may.joinable,
-            ))
-      ]
-
-  pub good_with : IsGood (with_thread s t thread ready mutexes conditions)
-  good_with = record {
-    order = order;
-    listed = listed_after;
-    within = within_after;
-    joining = λ v u h.
-        (let was = before v u h in
-        let may = joined_after v u was.0 was.1 in
-        record {
-          live = may.0;
-          joinable = may.1;
-          alone = λ w k. (let also = before w u k in (good.joining v u was.1).alone w also.1);
-        });
-    sound = sound;
-    conditions = agreed;
-    counted = counted_with s t thread good many;
+  pub ready_behind : (list : List ℕ) → IsTid t → is_ready (standing t) ≡ false → is_ready st ≡ true → IsReadyList standing list → IsReadyList (put standing t st) (behind t list)
+  ready_behind list range before after sound = record {
+    order = IsOrder-push list t sound.order range.0 range.1 (sound.listed t ∙ before);
+    listed = listed_behind is_ready standing t st list sound.listed after;
   }
 
--- a ready thread goes to the end of the list
-pub good_to_end : (s : State) (t : ℕ) → IsGood s → is_ready (s.threads t).standing ≡ true → IsGood (to_end s t)
-good_to_end s t good h =
-    let here = good.listed t ∙ h in
-    let range = within s.ready t good.order here in
-    let thread : Thread = record (s.threads t) { used = 0 } in
-    let ready = without t s.ready ++ t ∷ [] in
-    good_with s t thread ready s.mutexes s.conditions good
-    (IsOrder-push (without t s.ready) t (IsOrder-filter _ s.ready good.order) range.0 range.1 (not_in-without t s.ready))
-    (λ u ne. is_in-to_end t u s.ready here)
-    (is_in-pushed t (without t s.ready) ∙ sym h)
-    (λ e. range)
-    (λ u. ready_joins u (s.threads t).standing h)
-    (λ v ne j. (let may = good.joining v t j in (may.live, may.joinable)))
-    (sound_with s t thread ready s.conditions good (λ m. refl) (λ m k. (ready_live (s.threads t).standing h).1))
-    (λ c. (let awake = ready_waits_on c (s.threads t).standing h in condition_apart s t thread ready s.mutexes good (λ m is. is) s.conditions c awake awake))
-    (good.counted t)
+  pub ready_without : (list : List ℕ) → is_ready st ≡ false → IsReadyList standing list → IsReadyList (put standing t st) (without t list)
+  ready_without list after sound = record {
+    order = IsOrder-filter _ list sound.order;
+    listed = listed_without is_ready standing t st list sound.listed after;
+  }
+
+  pub within_put : AreWithin standing → (is_absent st ≡ false → IsTid t) → AreWithin (put standing t st)
+  within_put within range = each_put (λ u x. is_absent x ≡ false → IsTid u) standing t st range (λ u ne. within u)
+
+  pub counts_put : AreCounts standing → IsCount (count_due st) → AreCounts (put standing t st)
+  counts_put counts many = each_put (λ u x. IsCount (count_due x)) standing t st many (λ u ne. counts u)
+
+module _ (standing : ℕ → Standing) (detached : ℕ → Bool) (t : ℕ) (sound : AreJoining standing detached) where
+  -- a thread changes that joins nobody anew, and whoever joins it may
+  pub joining_put : (st : Standing) (d : Bool) → ((u : ℕ) → joins u st ≡ true → joins u (standing t) ≡ true)
+      → ((v : ℕ) → joins t (standing v) ≡ true → (is_live st ≡ true) × (d ≡ false)) → AreJoining (put standing t st) (put detached t d)
+  joining_put st d idle may_be v u h =
+      let was = before v u h in
+      record {
+        live = each_put (λ w x. joins w (standing v) ≡ true → is_live x ≡ true) standing t st (λ k. (may_be v k).0) (λ w ne k. (sound v w k).live) u was;
+        joinable = each_put (λ w x. joins w (standing v) ≡ true → x ≡ false) detached t d (λ k. (may_be v k).1) (λ w ne k. (sound v w k).joinable) u was;
+        alone = λ w k. (sound v u was).alone w (before w u k);
+      }
+    where
+      before : (v u : ℕ) → joins u (put standing t st v) ≡ true → joins u (standing v) ≡ true
+      before v u = each_put (λ w x. joins u x ≡ true → joins u (standing w) ≡ true) standing t st (idle u) (λ w ne k. k) v
+
+  -- a live thread joins another that nobody joins
+  module _ (u : ℕ) (mine : is_live (standing t) ≡ true) (live : is_live (standing u) ≡ true) (joinable : detached u ≡ false)
+      (nobody : (v : ℕ) → joins u (standing v) ≡ true → ⊥) where
+    abbrev joined : Standing
+    joined = Waits (Join u)
+
+    live_on : (w : ℕ) → is_live (standing w) ≡ true → is_live (put standing t joined w) ≡ true
+    live_on w h = kept is_live standing t w joined (sym mine) ∙ h
+
+    pub joining_new : AreJoining (put standing t (Waits (Join u))) detached
+    joining_new v w =
+        each_put (λ x st. joins w st ≡ true → MayJoin (put standing t joined) detached x w) standing t joined
+        (λ h. subst (MayJoin (put standing t joined) detached t) (eqb-true u w h) (record {
+          live = live_on u live;
+          joinable = joinable;
+          alone = each_put (λ x st. joins u st ≡ true → x ≡ t) standing t joined (λ k. refl) (λ x ne k. absurd (nobody x k));
+        }))
+        (λ x ne h. record {
+          live = live_on w (sound x w h).live;
+          joinable = (sound x w h).joinable;
+          alone =
+              each_put (λ y st. joins w st ≡ true → y ≡ x) standing t joined
+              (λ k. absurd (nobody x (subst (λ y. joins y (standing x) ≡ true) (sym (eqb-true u w k)) h)))
+              (λ y apart k. (sound x w h).alone y k);
+        })
+        v
+
+-- a thread that is not ready becomes ready, and mutexes and conditions change beside
+abbrev pub awoken : State → ℕ → Thread → (ℕ → Option Mutex) → (ℕ → Option Condition) → State
+awoken s t thread mutexes conditions = record (append s t thread) { mutexes = mutexes; conditions = conditions }
+
+pub good_awoken : (s : State) (t : ℕ) (thread : Thread) (mutexes : ℕ → Option Mutex) (conditions : ℕ → Option Condition) → IsGood s
+    → is_ready (standings s t) ≡ false → IsTid t → ((v : ℕ) → joins t (standings s v) ≡ true → thread.detached ≡ false)
+    → AreSoundMutexes (put (standings s) t Ready) mutexes → AreSoundConditions (put (standings s) t Ready) mutexes conditions
+    → IsGood (awoken s t thread mutexes conditions)
+good_awoken s t thread mutexes conditions good away range joinable sound agreed =
+    good_change s t (record thread { standing = Ready; used = 0 }) (awoken s t thread mutexes conditions) refl
+    (record {
+      ready = ready_behind (standings s) t Ready s.ready range away refl good.ready;
+      within = within_put (standings s) t Ready good.within (λ h. range);
+      joining = joining_put (standings s) (detachments s) t good.joining Ready thread.detached (λ u h. absurd (never false h refl)) (λ v j. (refl, joinable v j));
+      mutexes = sound;
+      conditions = agreed;
+      counts = counts_put (standings s) t Ready good.counts once;
+    })
+
+-- a thread waits for no end from now on, and the ready list, mutexes and conditions change beside
+abbrev pub asleep : State → ℕ → Wait → List ℕ → (ℕ → Option Mutex) → (ℕ → Option Condition) → State
+asleep s t wait list mutexes conditions = record (await s t wait) { ready = list; mutexes = mutexes; conditions = conditions }
+
+pub good_asleep : (s : State) (t : ℕ) (wait : Wait) (list : List ℕ) (mutexes : ℕ → Option Mutex) (conditions : ℕ → Option Condition) → IsGood s → IsTid t
+    → ((u : ℕ) → is_target (EndOf u) (aim wait) ≡ false) → IsReadyList (put (standings s) t (Waits wait)) list
+    → AreSoundMutexes (put (standings s) t (Waits wait)) mutexes → AreSoundConditions (put (standings s) t (Waits wait)) mutexes conditions
+    → IsCount (count_due (Waits wait)) → IsGood (asleep s t wait list mutexes conditions)
+good_asleep s t wait list mutexes conditions good range idle listed sound agreed many =
+    good_change s t (record (s.threads t) { standing = Waits wait }) (asleep s t wait list mutexes conditions) refl
+    (record {
+      ready = listed;
+      within = within_put (standings s) t (Waits wait) good.within (λ h. range);
+      joining =
+          joining_put (standings s) (detachments s) t good.joining (Waits wait) (s.threads t).detached
+          (λ u h. absurd (never (is_target (EndOf u) (aim wait)) h (idle u)))
+          (λ v j. (refl, (good.joining v t j).joinable));
+      mutexes = sound;
+      conditions = agreed;
+      counts = counts_put (standings s) t (Waits wait) good.counts many;
+    })
 
 -- a thread that was not ready and waited for no mutex and no condition becomes ready
-pub good_append : (s : State) (t : ℕ) (thread : Thread) → IsGood s → is_ready (s.threads t).standing ≡ false → ((m : ℕ) → wants m (s.threads t).standing ≡ false)
-    → ((c : ℕ) → waits_on c (s.threads t).standing ≡ false) → IsTid t → ((v : ℕ) → joins t (s.threads v).standing ≡ true → thread.detached ≡ false) → IsGood (append s t thread)
-good_append s t thread good h wanted awake range open_to =
-    let away = good.listed t ∙ h in
-    good_with s t (record thread { standing = Ready; used = 0 }) (s.ready ++ t ∷ []) s.mutexes s.conditions good
-    (IsOrder-push s.ready t good.order range.0 range.1 away)
-    (λ u ne. is_in-push t u s.ready ne)
-    (is_in-pushed t s.ready)
-    (λ e. range)
-    (λ u. refl)
-    (λ v ne j. (refl, open_to v j))
-    (sound_with s t (record thread { standing = Ready; used = 0 }) (s.ready ++ t ∷ []) s.conditions good (λ m. sym (wanted m)) (λ m k. refl))
-    (λ c. condition_apart s t (record thread { standing = Ready; used = 0 }) (s.ready ++ t ∷ []) s.mutexes good (λ m is. is) s.conditions c refl (awake c))
-    once
-
--- a thread that nobody joins and that waits for no mutex and no condition is gone, or has ended, or is there no more
-pub good_gone : (s : State) (t : ℕ) (thread : Thread) → IsGood s → is_live thread.standing ≡ false → is_ready thread.standing ≡ false → ((u : ℕ) → joins u thread.standing ≡ false)
-    → (is_absent thread.standing ≡ false → IsTid t) → ((m : ℕ) → wants m (s.threads t).standing ≡ false) → ((c : ℕ) → waits_on c (s.threads t).standing ≡ false)
-    → ((v : ℕ) → joins t (s.threads v).standing ≡ true → ⊥) → IsGood (with_thread s t thread (without t s.ready) (orphaned t s.mutexes) s.conditions)
-good_gone s t thread good dead away idle inside wanted awake nobody =
-    good_with s t thread (without t s.ready) (orphaned t s.mutexes) s.conditions good
-    (IsOrder-filter _ s.ready good.order)
-    (λ u ne. is_in-without t u s.ready ne)
-    (not_in-without t s.ready ∙ sym away)
-    inside idle
-    (λ v ne j. absurd (nobody v j))
-    (sound_orphaned s t thread (without t s.ready) s.conditions good (λ m. dead_wants m thread.standing dead) wanted)
-    (λ c.
-    condition_apart s t thread (without t s.ready) (orphaned t s.mutexes) good (λ m is. orphan_there t (s.mutexes m) ∙ is) s.conditions c
-    (dead_waits_on c thread.standing dead) (awake c))
-    (dead_once thread.standing dead)
-
--- the record of a thread that has ended changes, which is not live then, and nobody joins it
-pub good_unjoined : (s : State) (t : ℕ) (thread : Thread) → IsGood s → is_live (s.threads t).standing ≡ false → is_live thread.standing ≡ false → is_ready thread.standing ≡ is_ready (s.threads t).standing
-    → ((u : ℕ) → joins u thread.standing ≡ false)
-    → (is_absent thread.standing ≡ false → IsTid t) → ((v : ℕ) → joins t (s.threads v).standing ≡ true → ⊥) → IsGood (set_thread s t thread)
-good_unjoined s t thread good was dead same idle inside nobody =
-    good_with s t thread s.ready s.mutexes s.conditions good good.order (λ u ne. refl) (good.listed t ∙ sym same) inside idle (λ v ne j. absurd (nobody v j))
-    (sound_with s t thread s.ready s.conditions good
-    (λ m. dead_wants m thread.standing dead ∙ sym (dead_wants m (s.threads t).standing was))
-    (λ m h. absurd (never (is_live (s.threads t).standing) ((good.sound m).owned t h).live was)))
-    (λ c. condition_apart s t thread s.ready s.mutexes good (λ m is. is) s.conditions c (dead_waits_on c thread.standing dead) (dead_waits_on c (s.threads t).standing was))
-    (dead_once thread.standing dead)
-
--- a test of equal numbers
-meets : (a b : ℕ) → eqb a b ≡ true → a ≡ b
-meets a b h = eqb-true a b h
-
--- a ready thread waits for the end of another that nobody joins
-module _ (s : State) (t u : ℕ) (good : IsGood s) (ready : is_ready (s.threads t).standing ≡ true) (apart : u ≢ t)
-    (live : is_live (s.threads u).standing ≡ true) (joinable : (s.threads u).detached ≡ false) (nobody : (v : ℕ) → joins u (s.threads v).standing ≡ true → ⊥) where
-  waiting : Thread
-  waiting = record (s.threads t) { standing = Waits (Join u) }
-
-  -- a thread that joins afterwards is the new joiner, or was one before
-  either : (v w : ℕ) → joins w (put s.threads t waiting v).standing ≡ true → ((v ≡ t) × (u ≡ w)) ⊎ ((v ≢ t) × (joins w (s.threads v).standing ≡ true))
-  unfolding waiting
-  either v w h =
-      elim (cases_eq v t) [
-        | inl same ↦ inl (same, meets u w (sym (at_same (λ (x : Thread). joins w x.standing) s.threads t v waiting same) ∙ h))
-        | inr other ↦ inr (other, sym (at_other (λ (x : Thread). joins w x.standing) s.threads t v waiting other) ∙ h)
-      ]
-
-  detached_same : (w : ℕ) → (put s.threads t waiting w).detached ≡ (s.threads w).detached
-  unfolding waiting
-  detached_same w = kept (λ (x : Thread). x.detached) s.threads t w waiting refl
-
-  live_same : (w : ℕ) → is_live (put s.threads t waiting w).standing ≡ is_live (s.threads w).standing
-  unfolding waiting
-  live_same w = kept (λ (x : Thread). is_live x.standing) s.threads t w waiting (sym (ready_live (s.threads t).standing ready).1)
-
-  may_join : (v w : ℕ) → ((v ≡ t) × (u ≡ w)) ⊎ ((v ≢ t) × (joins w (s.threads v).standing ≡ true)) → MayJoin (await s t (Join u)) v w
-  unfolding waiting
-  may_join v w (inl e) = record {
-    live = live_same w ∙ ap (λ x. is_live (s.threads x).standing) (sym e.1) ∙ live;
-    joinable = detached_same w ∙ ap (λ x. (s.threads x).detached) (sym e.1) ∙ joinable;
-    alone = λ x k. elim (either x w k) [
-      | inl f ↦ f.0 ∙ sym e.0
-      | inr f ↦ absurd (nobody x (subst (λ y. joins y (s.threads x).standing ≡ true) (sym e.1) f.1))
-    ];
-  }
-  may_join v w (inr e) =
-      let may = good.joining v w e.1 in
-      record {
-        live = live_same w ∙ may.live;
-        joinable = detached_same w ∙ may.joinable;
-        alone = λ x k. elim (either x w k) [
-          | inl f ↦ absurd (nobody v (subst (λ y. joins y (s.threads v).standing ≡ true) (sym f.1) e.1))
-          | inr f ↦ may.alone x f.1
-        ];
-      }
-
-  pub good_join : IsGood (await s t (Join u))
-  unfolding waiting
-  good_join = record {
-    order = IsOrder-filter _ s.ready good.order;
-    listed = λ v. elim (cases_eq v t) [
-      | inl same ↦ ap (λ w. is_in w (without t s.ready)) same ∙ not_in-without t s.ready ∙ sym (at_same (λ (x : Thread). is_ready x.standing) s.threads t v waiting same)
-      | inr other ↦ is_in-without t v s.ready other ∙ good.listed v ∙ sym (at_other (λ (x : Thread). is_ready x.standing) s.threads t v waiting other)
-    ];
-    within = λ v h. good.within v (sym (kept (λ (x : Thread). is_absent x.standing) s.threads t v waiting (sym (ready_live (s.threads t).standing ready).0)) ∙ h);
-    joining = λ v w h. may_join v w (either v w h);
-    sound = sound_with s t waiting (without t s.ready) s.conditions good (λ m. sym (ready_wants m (s.threads t).standing ready)) (λ m h. refl);
-    conditions = λ c. condition_apart s t waiting (without t s.ready) s.mutexes good (λ m is. is) s.conditions c refl (ready_waits_on c (s.threads t).standing ready);
-    counted = counted_with s t waiting good once;
-  }
-
--- where no thread is found that joins, none joins
-pub nobody_joins : (s : State) (u : ℕ) → IsGood s → has_joiner s u ≡ false → (v : ℕ) → joins u (s.threads v).standing ≡ true → ⊥
-nobody_joins s u good none v h =
-    let there = (joins_waits u (s.threads v).standing h).1 in
-    let range = good.within v there in
-    never (joins u (s.threads v).standing) h (any_none (λ w. joins u (s.threads w).standing) tids v none (in_tids v range.0 range.1))
-
-pub no_joiner : (s : State) (u : ℕ) → IsGood s → joiner s u ≡ None → (v : ℕ) → joins u (s.threads v).standing ≡ true → ⊥
-no_joiner s u good none v h =
-    let there = (joins_waits u (s.threads v).standing h).1 in
-    let range = good.within v there in
-    never (joins u (s.threads v).standing) h (find_none (λ w. joins u (s.threads w).standing) tids v none (in_tids v range.0 range.1))
-
--- nobody waits for the end of a thread that is not there or has ended
-pub unjoined : (s : State) (u : ℕ) → IsGood s → is_live (s.threads u).standing ≡ false → (v : ℕ) → joins u (s.threads v).standing ≡ true → ⊥
-unjoined s u good dead v h = never (is_live (s.threads u).standing) (good.joining v u h).live dead
+pub good_append : (s : State) (t : ℕ) (thread : Thread) → IsGood s → is_ready (standings s t) ≡ false → ((m : ℕ) → wants m (standings s t) ≡ false)
+    → ((c : ℕ) → waits_on c (standings s t) ≡ false) → IsTid t → ((v : ℕ) → joins t (standings s v) ≡ true → thread.detached ≡ false) → IsGood (append s t thread)
+good_append s t thread good away wanted awake range joinable =
+    good_awoken s t thread s.mutexes s.conditions good away range joinable
+    (mutexes_stay (standings s) t Ready s.mutexes good.mutexes (λ m. sym (wanted m)) (λ m h. refl))
+    (conditions_apart (standings s) s.mutexes t Ready s.conditions (λ c. refl) awake good.conditions)
 
 -- who waits for an end is answered
-pub good_answer : (g : Made) (u t error value : ℕ) → IsGood g.state → joins t (g.state.threads u).standing ≡ true → IsGood (answer g u error value).state
+pub good_answer : (g : Outcome) (u t error value : ℕ) → IsGood g.state → joins t (standings g.state u) ≡ true → IsGood (answer g u error value).state
 good_answer g u t error value good h =
-    let waits = joins_waits t (g.state.threads u).standing h in
-    good_append g.state u (with_reply (g.state.threads u) error value) good waits.0 (λ m. joins_wants t m (g.state.threads u).standing h)
-    (λ c. joins_waits_on t c (g.state.threads u).standing h) (good.within u waits.1)
-    (λ v j. (good.joining v u j).joinable)
+    let waits = waiting (EndOf t) (standings g.state u) h in
+    let is = target_is (EndOf t) (target (standings g.state u)) h in
+    good_append g.state u (with_reply (g.state.threads u) error value) good waits.0 (λ m. ap (is_target (MutexAt m)) is)
+    (λ c. ap (is_target (ConditionAt c)) is) (good.within u waits.1) (λ v j. (good.joining v u j).joinable)
+
+-- a ready thread that nobody joins is gone, or has ended
+pub good_without : (s : State) (t : ℕ) (left : Thread) → IsGood s → is_live left.standing ≡ false → IsTid t → is_ready (standings s t) ≡ true
+    → ((v : ℕ) → joins t (standings s v) ≡ true → ⊥) → IsGood (without_thread s t left)
+good_without s t left good gone range ready nobody =
+    let is = dead left.standing gone in
+    let was = ready_target (standings s t) ready in
+    good_change s t left (without_thread s t left) refl
+    (record {
+      ready = ready_without (standings s) t left.standing s.ready is.1 good.ready;
+      within = within_put (standings s) t left.standing good.within (λ h. range);
+      joining =
+          joining_put (standings s) (detachments s) t good.joining left.standing left.detached
+          (λ u h. absurd (never (joins u left.standing) h (ap (is_target (EndOf u)) is.0)))
+          (λ v j. absurd (nobody v j));
+      mutexes = mutexes_orphaned (standings s) t left.standing s.mutexes good.mutexes (λ m. ap (is_target (MutexAt m)) (is.0 ∙ sym was));
+      conditions =
+          conditions_on (put (standings s) t left.standing) s.mutexes _ s.conditions (λ c m e. stay_orphaned t (s.mutexes m))
+          (conditions_apart (standings s) s.mutexes t left.standing s.conditions (λ c. ap (is_target (ConditionAt c)) is.0) (λ c. ap (is_target (ConditionAt c)) was) good.conditions);
+      counts = counts_put (standings s) t left.standing good.counts is.2;
+    })
+
+-- nobody waits for the end of a thread that has ended
+pub unjoined : (s : State) (u : ℕ) → IsGood s → is_live (standings s u) ≡ false → (v : ℕ) → joins u (standings s v) ≡ true → ⊥
+unjoined s u good gone v h = never (is_live (standings s u)) (good.joining v u h).live gone
+
+-- the number of a thread that has ended is free
+pub good_freed_number : (s : State) (t : ℕ) → IsGood s → is_live (standings s t) ≡ false → IsGood (set_thread s t no_thread)
+good_freed_number s t good gone =
+    let was = dead (standings s t) gone in
+    good_change s t no_thread (set_thread s t no_thread) refl
+    (record {
+      ready = ready_on (standings s) t Absent s.ready (sym was.1) good.ready;
+      within = within_put (standings s) t Absent good.within (λ h. absurd (never true refl h));
+      joining =
+          joining_put (standings s) (detachments s) t good.joining Absent false (λ u h. absurd (never false h refl)) (λ v j. absurd (unjoined s t good gone v j));
+      mutexes =
+          mutexes_stay (standings s) t Absent s.mutexes good.mutexes (λ m. ap (is_target (MutexAt m)) (sym was.0))
+          (λ m h. sym gone ∙ ((good.mutexes m).owned t h).live);
+      conditions = conditions_apart (standings s) s.mutexes t Absent s.conditions (λ c. refl) (λ c. ap (is_target (ConditionAt c)) was.0) good.conditions;
+      counts = counts_put (standings s) t Absent good.counts once;
+    })
+
+-- a ready thread waits for the end of another that nobody joins
+pub good_join : (s : State) (t u : ℕ) → IsGood s → is_ready (standings s t) ≡ true → is_live (standings s u) ≡ true → (s.threads u).detached ≡ false
+    → ((v : ℕ) → joins u (standings s v) ≡ true → ⊥) → IsGood (await s t (Join u))
+good_join s t u good ready live joinable nobody =
+    let st : Standing = Waits (Join u) in
+    good_change s t (record (s.threads t) { standing = Waits (Join u) }) (await s t (Join u)) refl
+    (record {
+      ready = ready_without (standings s) t st s.ready refl good.ready;
+      within = within_put (standings s) t st good.within (λ h. good.within t (ready_live (standings s t) ready).0);
+      joining =
+          subst (AreJoining (put (standings s) t st)) (sym (put_got (detachments s) t))
+          (joining_new (standings s) (detachments s) t good.joining u (ready_live (standings s t) ready).1 live joinable nobody);
+      mutexes = mutexes_stay (standings s) t st s.mutexes good.mutexes (λ m. sym (ready_wants m (standings s t) ready)) (λ m h. refl);
+      conditions = conditions_apart (standings s) s.mutexes t st s.conditions (λ c. refl) (λ c. ready_waits_on c (standings s t) ready) good.conditions;
+      counts = counts_put (standings s) t st good.counts once;
+    })
 
 -- a thread that nobody joins is detached
-module _ (s : State) (u : ℕ) (good : IsGood s) (nobody : (v : ℕ) → joins u (s.threads v).standing ≡ true → ⊥) where
-  loose : Thread
-  loose = record (s.threads u) { detached = true }
+pub good_detached : (s : State) (u : ℕ) → IsGood s → ((v : ℕ) → joins u (standings s v) ≡ true → ⊥) → IsGood (set_thread s u (record (s.threads u) { detached = true }))
+good_detached s u good nobody =
+    let loose : Thread = record (s.threads u) { detached = true } in
+    good_alike s (set_thread s u loose) (λ i v. kept (λ (x : Thread). x.standing) s.threads u v loose refl i) good good.ready
+    (subst (AreJoining (standings s)) (sym (map_put (λ (x : Thread). x.detached) s.threads u loose))
+    (subst (λ f. AreJoining f (put (detachments s) u true)) (put_got (standings s) u)
+    (joining_put (standings s) (detachments s) u good.joining (standings s u) true (λ v h. h) (λ v j. absurd (nobody v j)))))
+    good.mutexes good.conditions
 
-  same_standing : (w : ℕ) → (put s.threads u loose w).standing ≡ (s.threads w).standing
-  unfolding loose
-  same_standing w = kept (λ (x : Thread). x.standing) s.threads u w loose refl
+-- a ready thread goes to the end of the list
+pub good_to_end : (s : State) (t : ℕ) → IsGood s → is_ready (standings s t) ≡ true → IsGood (to_end s t)
+good_to_end s t good h =
+    let range = good.within t (ready_live (standings s t) h).0 in
+    let set = set_thread s t (record (s.threads t) { used = 0 }) in
+    let good_here = good_set s t (record (s.threads t) { used = 0 }) refl refl good in
+    good_alike set (to_end s t) refl good_here
+    (record {
+      order = IsOrder-push (without t s.ready) t (IsOrder-filter _ s.ready good.ready.order) range.0 range.1 (not_in-without t s.ready);
+      listed = λ u. is_in-to_end t u s.ready (good.ready.listed t ∙ h) ∙ good_here.ready.listed u;
+    })
+    good_here.joining good_here.mutexes good_here.conditions
 
-  still_joinable : (v w : ℕ) → joins w (s.threads v).standing ≡ true → (put s.threads u loose w).detached ≡ false
-  still_joinable v w h =
-      elim (cases_eq w u) [
-        | inl same ↦ absurd (nobody v (subst (λ x. joins x (s.threads v).standing ≡ true) same h))
-        | inr other ↦ at_other (λ (x : Thread). x.detached) s.threads u w loose other ∙ (good.joining v w h).joinable
-      ]
+-- where no thread is found that joins, none joins
+pub nobody_joins : (s : State) (u : ℕ) → IsGood s → has_joiner s u ≡ false → (v : ℕ) → joins u (standings s v) ≡ true → ⊥
+nobody_joins s u good none v h =
+    let range = good.within v (waiting (EndOf u) (standings s v) h).1 in
+    never (joins u (standings s v)) h (any_none (λ w. joins u (standings s w)) tids v none (in_tids v range.0 range.1))
 
-  pub good_detached : IsGood (set_thread s u (record (s.threads u) { detached = true }))
-  unfolding loose
-  good_detached = record {
-    order = good.order;
-    listed = λ t. good.listed t ∙ ap is_ready (sym (same_standing t));
-    within = λ t h. good.within t (ap is_absent (sym (same_standing t)) ∙ h);
-    joining = λ v w h.
-        (let was : joins w (s.threads v).standing ≡ true = ap (joins w) (sym (same_standing v)) ∙ h in
-        let may = good.joining v w was in
-        record {
-          live = ap is_live (same_standing w) ∙ may.live;
-          joinable = still_joinable v w was;
-          alone = λ x k. may.alone x (ap (joins w) (sym (same_standing x)) ∙ k);
-        });
-    sound = sound_with s u loose s.ready s.conditions good (λ m. refl) (λ m h. ((good.sound m).owned u h).live);
-    conditions = λ c.
-        condition_alike s (set_thread s u loose) c (s.conditions c) (λ w. ap (waits_on c) (same_standing w)) (λ w h. ap mutex_with (same_standing w)) (λ m e h. h)
-        (good.conditions c);
-    counted = counted_with s u loose good (good.counted u);
-  }
+pub no_joiner : (s : State) (u : ℕ) → IsGood s → joiner s u ≡ None → (v : ℕ) → joins u (standings s v) ≡ true → ⊥
+no_joiner s u good none v h =
+    let range = good.within v (waiting (EndOf u) (standings s v) h).1 in
+    never (joins u (standings s v)) h (find_none (λ w. joins u (standings s w)) tids v none (in_tids v range.0 range.1))

@@ -2,6 +2,7 @@ pub mod DeliveryLemmas
 pub mod TraceLemmas
 pub mod RunLaws
 pub mod StandingLemmas
+pub mod ListLemmas
 pub mod MutexLemmas
 pub mod ConditionLemmas
 pub mod GoodLemmas
@@ -9,7 +10,8 @@ pub mod GoodReplies
 pub mod GoodHands
 pub mod GoodConditions
 pub mod GoodMutexes
+pub mod GoodThreads
 pub mod GoodMoves
+pub mod TableLemmas
 pub mod PriorityLaws
 pub mod WakeLemmas
-pub mod Computed

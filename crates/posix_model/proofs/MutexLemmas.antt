@@ -1,133 +1,127 @@
--- What keeps a mutex sound.
-use Rattle.std.proofs.Common.{◌≡◌, ◌≢◌, ◌∙◌, ap, sym, refl, subst, inl, inr, ℕ, ◌≤◌, Bool, true, false, List, [], Option, Some, None}
+-- What keeps a mutex sound: a thread that changes, the mutex that changes, or both.
+use Rattle.std.proofs.Common.{◌≡◌, ◌≢◌, ◌∙◌, ap, sym, refl, subst, ℕ, Bool, true, false, [], Option, Some, None}
 use Rattle.std.specs.Prelude.{if◌then◌else◌}
-use Rattle.std.proofs.lemmas.Bool.{cases_eq, eqb-true}
-use Rattle.thread_base.specs.Holders.{is_held_by, count_of, is_free}
+use Rattle.std.proofs.lemmas.Bool.{eqb-true}
+use Rattle.thread_base.specs.Holders.{is_held_by, is_free}
 use Rattle.thread_base.specs.Maps.{put}
-use Rattle.thread_base.specs.Orders.{is_in, IsOrder}
+use Rattle.thread_base.specs.Numbers.{IsTid}
+use Rattle.thread_base.specs.Objects.{holder_in, waiters_in}
+use Rattle.thread_base.specs.Orders.{is_in, without, IsOrder}
 use Rattle.thread_base.specs.declared.mutex.Holder.{Holder}
 use Rattle.thread_base.specs.declared.mutex.Holder.TheVariants.{Free, Held, Orphan}
-use Rattle.posix_model.specs.State.{State, Thread, Mutex, Condition, is_live, wants}
-use Rattle.posix_model.specs.Mutexes.{holder_in, waiters_in, holder_of, waiters_of, most_locks, orphan_in, orphaned}
-use Rattle.posix_model.specs.Good.{IsGood, IsSoundMutex}
-use Rattle.posix_model.proofs.StandingLemmas.{never, at_same, at_other, kept}
-
--- a thread's record, the ready list, the mutexes and the conditions change
-abbrev pub with_thread : State → ℕ → Thread → List ℕ → (ℕ → Option Mutex) → (ℕ → Option Condition) → State
-with_thread s t thread ready mutexes conditions =
-    record s { threads = put s.threads t thread; ready = ready; mutexes = mutexes; conditions = conditions }
-
--- a mutex is sound by its holder and its waiters
-pub sound_as : (r : State) (m : ℕ) (holder : Holder) (ws : List ℕ) → holder_of r m ≡ holder → waiters_of r m ≡ ws → IsOrder ws
-    → ((u : ℕ) → is_in u ws ≡ wants m (r.threads u).standing)
-    → ((u : ℕ) → is_held_by holder u ≡ true → (is_live (r.threads u).standing ≡ true) × (1 ≤ count_of holder) × (count_of holder ≤ most_locks))
-    → (is_free holder ≡ true → ws ≡ []) → IsSoundMutex r m
-sound_as r m holder ws a b order listed owned unwanted = record {
-  order = subst IsOrder (sym b) order;
-  listed = λ u. ap (is_in u) b ∙ listed u;
-  owned = λ u h.
-      (let may = owned u (ap (λ x. is_held_by x u) (sym a) ∙ h) in
-      record {
-        live = may.0;
-        least = subst (λ x. 1 ≤ count_of x) (sym a) may.1;
-        most = subst (λ x. count_of x ≤ most_locks) (sym a) may.2;
-      });
-  unwanted = λ h. b ∙ unwanted (ap is_free (sym a) ∙ h);
-}
-
--- holder and waiters stay, each thread waits for it as before, and who has it goes on
-pub sound_alike : (s r : State) (m : ℕ) → holder_of r m ≡ holder_of s m → waiters_of r m ≡ waiters_of s m
-    → ((u : ℕ) → wants m (r.threads u).standing ≡ wants m (s.threads u).standing)
-    → ((u : ℕ) → is_held_by (holder_of s m) u ≡ true → is_live (s.threads u).standing ≡ true → is_live (r.threads u).standing ≡ true)
-    → IsSoundMutex s m → IsSoundMutex r m
-sound_alike s r m a b wanted goes_on sound =
-    sound_as r m (holder_of s m) (waiters_of s m) a b sound.order
-    (λ u. sound.listed u ∙ sym (wanted u))
-    (λ u h. (let may = sound.owned u h in (goes_on u h may.live, may.least, may.most)))
-    sound.unwanted
-
-module _ (s : State) (t : ℕ) (thread : Thread) (ready : List ℕ) (conditions : ℕ → Option Condition) (good : IsGood s) where
-  -- a thread's record changes, which waits for the same mutex, and goes on where it has one
-  pub sound_with : ((m : ℕ) → wants m thread.standing ≡ wants m (s.threads t).standing)
-      → ((m : ℕ) → is_held_by (holder_of s m) t ≡ true → is_live thread.standing ≡ true)
-      → (m : ℕ) → IsSoundMutex (with_thread s t thread ready s.mutexes conditions) m
-  sound_with wanted goes_on m =
-      sound_alike s (with_thread s t thread ready s.mutexes conditions) m refl refl
-      (λ u. kept (λ (x : Thread). wants m x.standing) s.threads t u thread (wanted m))
-      (λ u h live. elim (cases_eq u t) [
-        | inl same ↦ at_same (λ (x : Thread). is_live x.standing) s.threads t u thread same ∙ goes_on m (subst (λ v. is_held_by (holder_of s m) v ≡ true) same h)
-        | inr other ↦ at_other (λ (x : Thread). is_live x.standing) s.threads t u thread other ∙ live
-      ])
-      (good.sound m)
-
-  -- a mutex changes too, and the thread, which goes on, waits for no other than before
-  pub sound_put : (m : ℕ) (o : Option Mutex) → ((k : ℕ) → k ≢ m → wants k thread.standing ≡ wants k (s.threads t).standing)
-      → is_live thread.standing ≡ true → IsSoundMutex (with_thread s t thread ready (put s.mutexes m o) conditions) m
-      → (k : ℕ) → IsSoundMutex (with_thread s t thread ready (put s.mutexes m o) conditions) k
-  sound_put m o wanted alive here k =
-      elim (cases_eq k m) [
-        | inl same ↦ subst (IsSoundMutex (with_thread s t thread ready (put s.mutexes m o) conditions)) (sym same) here
-        | inr other ↦
-            sound_alike s (with_thread s t thread ready (put s.mutexes m o) conditions) k
-            (at_other holder_in s.mutexes m k o other) (at_other waiters_in s.mutexes m k o other)
-            (λ u. kept (λ (x : Thread). wants k x.standing) s.threads t u thread (wanted k other))
-            (λ u h live. elim (cases_eq u t) [
-              | inl same ↦ at_same (λ (x : Thread). is_live x.standing) s.threads t u thread same ∙ alive
-              | inr apart ↦ at_other (λ (x : Thread). is_live x.standing) s.threads t u thread apart ∙ live
-            ])
-            (good.sound k)
-      ]
-
--- who has a mutex that one thread has
-pub held_by_one : (t count u : ℕ) → is_held_by (Held t count) u ≡ true → u ≡ t
-held_by_one t count u h = sym (eqb-true t u h)
+use Rattle.thread_base.proofs.OrderLemmas.{IsOrder-push, IsOrder-filter}
+use Rattle.posix_model.specs.State.{Standing, Mutex, is_live, wants}
+use Rattle.posix_model.specs.Mutexes.{with_waiter, orphan_in, orphaned}
+use Rattle.posix_model.specs.Good.{IsSoundMutex, AreSoundMutexes, MayHold, IsCount}
+use Rattle.posix_model.proofs.StandingLemmas.{never}
+use Rattle.posix_model.proofs.ListLemmas.{each_put, listed_on, listed_behind, listed_without}
 
 pub is_none_held : (holder : Holder) → is_free holder ≡ true → holder ≡ Free
 is_none_held Free h = refl
-is_none_held (Held by count) h = absurd (let e : false ≡ true = h in cc)
-is_none_held Orphan h = absurd (let e : false ≡ true = h in cc)
+is_none_held holder h = absurd (never false h refl)
 
--- an orphan has the waiters that it had
-orphan_waiters : (t : ℕ) (o : Option Mutex) → waiters_in (orphan_in t o) ≡ waiters_in o
-orphan_waiters t None = refl
-orphan_waiters t (Some mutex) = by (is_held_by mutex.holder t)
+-- a mutex that nobody has and nobody waits for, or that is not there
+pub mutex_idle : (standing : ℕ → Standing) (m : ℕ) (o : Option Mutex) → ((u : ℕ) → wants m (standing u) ≡ false) → holder_in o ≡ Free → waiters_in o ≡ [] → IsSoundMutex standing m o
+mutex_idle standing m o idle free nobody = record {
+  order = subst IsOrder (sym nobody) tt;
+  listed = λ u. ap (is_in u) nobody ∙ sym (idle u);
+  owned = λ u h. absurd (never (is_held_by (holder_in o) u) h (ap (λ x. is_held_by x u) free));
+  unwanted = λ h. nobody;
+}
+
+module _ (standing : ℕ → Standing) (m : ℕ) where
+  -- nobody waits for a mutex that is free
+  pub nobody_wants : (o : Option Mutex) → IsSoundMutex standing m o → is_free (holder_in o) ≡ true → (u : ℕ) → wants m (standing u) ≡ false
+  nobody_wants o sound free u = sym (sound.listed u) ∙ ap (is_in u) (sound.unwanted free)
+
+  -- a mutex has another holder, who may have it, or none
+  with_holder : (mutex : Mutex) (holder : Holder) → ((u : ℕ) → is_held_by holder u ≡ true → MayHold standing holder u) → (is_free holder ≡ true → mutex.waiters ≡ [])
+      → IsSoundMutex standing m (Some mutex) → IsSoundMutex standing m (Some (record mutex { holder = holder }))
+  with_holder mutex holder owned unwanted sound = record { order = sound.order; listed = sound.listed; owned = owned; unwanted = unwanted }
+
+  -- a live thread has it from now on, or has it so often
+  pub mutex_held : (t count : ℕ) (mutex : Mutex) → is_live (standing t) ≡ true → IsCount count
+      → IsSoundMutex standing m (Some mutex) → IsSoundMutex standing m (Some (record mutex { holder = Held t count }))
+  mutex_held t count mutex live many =
+      with_holder mutex (Held t count)
+      (λ u h. record { live = ap (λ v. is_live (standing v)) (sym (eqb-true t u h)) ∙ live; least = many.0; most = many.1 })
+      (λ h. absurd (never false h refl))
+
+  -- nobody has it and nobody waits for it
+  pub mutex_freed : (mutex : Mutex) → mutex.waiters ≡ [] → IsSoundMutex standing m (Some mutex) → IsSoundMutex standing m (Some (record mutex { holder = Free }))
+  mutex_freed mutex nobody = with_holder mutex Free (λ u h. absurd (never false h refl)) (λ h. nobody)
+
+  -- it is an orphan where its owner ended
+  mutex_orphaned : (t : ℕ) (o : Option Mutex) → IsSoundMutex standing m o → IsSoundMutex standing m (orphan_in t o)
+  mutex_orphaned t None sound = sound
+  mutex_orphaned t (Some mutex) sound = by (is_held_by mutex.holder t)
+    where
+      by : (b : Bool) → IsSoundMutex standing m (Some (if b then record mutex { holder = Orphan } else mutex))
+      by true = with_holder mutex Orphan (λ u h. absurd (never false h refl)) (λ h. absurd (never false h refl)) sound
+      by false = sound
+
+-- who ended has no mutex
+not_orphans : (t : ℕ) (o : Option Mutex) → is_held_by (holder_in (orphan_in t o)) t ≡ false
+not_orphans t None = refl
+not_orphans t (Some mutex) = by (is_held_by mutex.holder t) refl
   where
-    by : (b : Bool) → (if b then record mutex { holder = Orphan } else mutex).waiters ≡ mutex.waiters
-    by true = refl
-    by false = refl
+    by : (b : Bool) → is_held_by mutex.holder t ≡ b → is_held_by (if b then record mutex { holder = Orphan } else mutex).holder t ≡ false
+    by true e = refl
+    by false e = e
 
--- the holder behind the end of a thread: it is another thread, and the one before
-orphan_held : (t u : ℕ) (o : Option Mutex) → is_held_by (holder_in (orphan_in t o)) u ≡ true → (u ≢ t) × (holder_in (orphan_in t o) ≡ holder_in o)
-orphan_held t u None h = absurd (let e : false ≡ true = h in cc)
-orphan_held t u (Some mutex) h = by (is_held_by mutex.holder t) refl h
-  where
-    by : (b : Bool) → is_held_by mutex.holder t ≡ b → is_held_by (if b then record mutex { holder = Orphan } else mutex).holder u ≡ true
-        → (u ≢ t) × ((if b then record mutex { holder = Orphan } else mutex).holder ≡ mutex.holder)
-    by true e k = absurd (let f : false ≡ true = k in cc)
-    by false e k = (λ same. never (is_held_by mutex.holder t) (subst (λ v. is_held_by mutex.holder v ≡ true) same k) e, refl)
+-- a thread changes
+module _ (standing : ℕ → Standing) (t : ℕ) (st : Standing) where
+  owners : (holder : Holder) → (is_held_by holder t ≡ true → is_live st ≡ true) → ((u : ℕ) → is_held_by holder u ≡ true → MayHold standing holder u)
+      → (u : ℕ) → is_held_by holder u ≡ true → MayHold (put standing t st) holder u
+  owners holder alive owned u h =
+      let may = owned u h in
+      record {
+        live = each_put (λ v x. is_held_by holder v ≡ true → is_live x ≡ true) standing t st alive (λ v ne k. (owned v k).live) u h;
+        least = may.least;
+        most = may.most;
+      }
 
-orphan_free : (t : ℕ) (o : Option Mutex) → is_free (holder_in (orphan_in t o)) ≡ true → is_free (holder_in o) ≡ true
-orphan_free t None h = refl
-orphan_free t (Some mutex) h = by (is_held_by mutex.holder t) h
-  where
-    by : (b : Bool) → is_free (if b then record mutex { holder = Orphan } else mutex).holder ≡ true → is_free mutex.holder ≡ true
-    by true k = absurd (let f : false ≡ true = k in cc)
-    by false k = k
+  -- it waits for the mutex as before, and goes on where it has it
+  pub mutex_stays : (m : ℕ) (o : Option Mutex) → wants m st ≡ wants m (standing t) → (is_held_by (holder_in o) t ≡ true → is_live st ≡ true)
+      → IsSoundMutex standing m o → IsSoundMutex (put standing t st) m o
+  mutex_stays m o same alive sound = record {
+    order = sound.order;
+    listed = listed_on (wants m) standing t st (waiters_in o) sound.listed same;
+    owned = owners (holder_in o) alive sound.owned;
+    unwanted = sound.unwanted;
+  }
 
--- a thread that waits for no mutex ends
-pub sound_orphaned : (s : State) (t : ℕ) (thread : Thread) (ready : List ℕ) (conditions : ℕ → Option Condition) → IsGood s
-    → ((m : ℕ) → wants m thread.standing ≡ false) → ((m : ℕ) → wants m (s.threads t).standing ≡ false)
-    → (m : ℕ) → IsSoundMutex (with_thread s t thread ready (orphaned t s.mutexes) conditions) m
-sound_orphaned s t thread ready conditions good wants_none wanted_none m =
-    let r : State = with_thread s t thread ready (orphaned t s.mutexes) conditions in
-    let sound = good.sound m in
-    sound_as r m (holder_of r m) (waiters_of s m) refl (orphan_waiters t (s.mutexes m)) sound.order
-    (λ u. sound.listed u ∙ sym (kept (λ (x : Thread). wants m x.standing) s.threads t u thread (wants_none m ∙ sym (wanted_none m))))
-    (λ u h.
-    (let was = orphan_held t u (s.mutexes m) h in
-    let may = sound.owned u (ap (λ x. is_held_by x u) (sym was.1) ∙ h) in (
-      at_other (λ (x : Thread). is_live x.standing) s.threads t u thread was.0 ∙ may.live,
-      subst (λ x. 1 ≤ count_of x) (sym was.1) may.least,
-      subst (λ x. count_of x ≤ most_locks) (sym was.1) may.most,
-    )))
-    (λ h. sound.unwanted (orphan_free t (s.mutexes m) h))
+  -- it waits for the mutex from now on, behind the others
+  pub mutex_entered : (m : ℕ) (mutex : Mutex) → IsTid t → wants m (standing t) ≡ false → wants m st ≡ true → is_live st ≡ true → is_free mutex.holder ≡ false
+      → IsSoundMutex standing m (Some mutex) → IsSoundMutex (put standing t st) m (Some (with_waiter t mutex))
+  mutex_entered m mutex range before after alive taken sound = record {
+    order = IsOrder-push mutex.waiters t sound.order range.0 range.1 (sound.listed t ∙ before);
+    listed = listed_behind (wants m) standing t st mutex.waiters sound.listed after;
+    owned = owners mutex.holder (λ h. alive) sound.owned;
+    unwanted = λ h. absurd (never (is_free mutex.holder) h taken);
+  }
+
+  -- it waits for the mutex no more
+  pub mutex_left : (m : ℕ) (mutex : Mutex) → wants m st ≡ false → is_live st ≡ true
+      → IsSoundMutex standing m (Some mutex) → IsSoundMutex (put standing t st) m (Some (record mutex { waiters = without t mutex.waiters }))
+  mutex_left m mutex after alive sound = record {
+    order = IsOrder-filter _ mutex.waiters sound.order;
+    listed = listed_without (wants m) standing t st mutex.waiters sound.listed after;
+    owned = owners mutex.holder (λ h. alive) sound.owned;
+    unwanted = λ h. ap (without t) (sound.unwanted h);
+  }
+
+  module _ (mutexes : ℕ → Option Mutex) (sound : AreSoundMutexes standing mutexes) where
+    -- all mutexes stay, one changes beside, or those of the thread are orphans
+    pub mutexes_stay : ((m : ℕ) → wants m st ≡ wants m (standing t)) → ((m : ℕ) → is_held_by (holder_in (mutexes m)) t ≡ true → is_live st ≡ true)
+        → AreSoundMutexes (put standing t st) mutexes
+    mutexes_stay same alive m = mutex_stays m (mutexes m) (same m) (alive m) (sound m)
+
+    pub mutexes_put : (m : ℕ) (o : Option Mutex) → ((k : ℕ) → k ≢ m → wants k st ≡ wants k (standing t)) → is_live st ≡ true
+        → IsSoundMutex (put standing t st) m o → AreSoundMutexes (put standing t st) (put mutexes m o)
+    mutexes_put m o same alive here =
+        each_put (IsSoundMutex (put standing t st)) mutexes m o here (λ k ne. mutex_stays k (mutexes k) (same k ne) (λ h. alive) (sound k))
+
+    pub mutexes_orphaned : ((m : ℕ) → wants m st ≡ wants m (standing t)) → AreSoundMutexes (put standing t st) (orphaned t mutexes)
+    mutexes_orphaned same m =
+        mutex_stays m (orphan_in t (mutexes m)) (same m) (λ h. absurd (never (is_held_by (holder_in (orphan_in t (mutexes m))) t) h (not_orphans t (mutexes m)))) (mutex_orphaned standing m t (mutexes m) (sound m))

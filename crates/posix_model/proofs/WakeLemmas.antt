@@ -1,26 +1,30 @@
 -- The order in which waiters are woken, and what a wake changes.
 use Rattle.std.proofs.Common.{◌≡◌, ◌≢◌, ◌∙◌, ap, sym, refl, subst, inl, inr, ℕ, ◌<◌, ◌≤◌, Bool, true, false, ◌||◌, eqb, leb, List, [], ◌∷◌, Option, Some, None, arith, find, cond, not}
 use Rattle.std.specs.Prelude.{if◌then◌else◌, is_some}
-use Rattle.std.proofs.lemmas.Bool.{cases_eq, cases_lt, cases_Bool, eq-eqb, ne_eqb, eqb-true, eqb-false, le-leb, lt-leb}
+use Rattle.std.proofs.lemmas.Bool.{cases_lt, eq-eqb, ne_eqb, eqb-true, eqb-false, le-leb, lt-leb, or_parts, or_from, false_from_ne_true}
+use Rattle.std.proofs.Math.Bool.{or-true}
 use Rattle.thread_base.specs.Holders.{is_free}
+use Rattle.thread_base.specs.Maps.{put}
+use Rattle.thread_base.specs.Objects.{cond_waiters}
 use Rattle.thread_base.specs.Orders.{is_in, without, IsOrder}
 use Rattle.thread_base.specs.Priority.{greatest, first_greatest}
-use Rattle.thread_base.proofs.MapLemmas.{put_other}
+use Rattle.thread_base.proofs.MapLemmas.{put_other, put_got}
 use Rattle.thread_base.proofs.OrderLemmas.{without_absent}
 use Rattle.thread_base.proofs.PriorityLemmas.{first_in, first_some}
 use Rattle.thread_base.proofs.SearchLemmas.{find_passes}
-use Rattle.posix_model.specs.State.{State, Thread, Mutex, Condition, Standing, Absent, Ready, Waits, Ended, waits_on}
+use Rattle.posix_model.specs.State.{State, Thread, Mutex, Condition, Standing, Waits, wait_of, waits_on}
 use Rattle.posix_model.specs.Scheduling.{eff}
-use Rattle.posix_model.specs.Changes.{Made, begun}
+use Rattle.posix_model.specs.Changes.{Outcome, begun}
 use Rattle.posix_model.specs.Mutexes.{give, requeue, retake_of}
-use Rattle.posix_model.specs.Conditions.{cond_waiters, leave, wake_by, wake, wake_all, insert, in_order}
+use Rattle.posix_model.specs.Conditions.{leave, wake_from, wake, wake_all, insert, in_order}
 use Rattle.posix_model.specs.ConditionCalls.{cond_broadcast_of}
-use Rattle.posix_model.specs.Good.{IsGood}
+use Rattle.posix_model.specs.Good.{standings, IsGood}
 use Rattle.posix_model.specs.Laws.{BestComesFirst, EveryoneIsWoken}
 use Rattle.posix_model.specs.declared.RetakeReply.{RetakeReply}
 use Rattle.posix_model.specs.declared.RetakeReply.TheVariants.{Answer}
-use Rattle.posix_model.specs.declared.Wait.TheVariants.{Join, Mutex as OfMutex, Cond, Reacquire}
-use Rattle.posix_model.proofs.StandingLemmas.{never, at_same, kept}
+use Rattle.posix_model.specs.declared.Wait.TheVariants.{Cond}
+use Rattle.posix_model.proofs.StandingLemmas.{never, kept}
+use Rattle.posix_model.proofs.ListLemmas.{each_put}
 use Rattle.posix_model.proofs.GoodConditions.{mutex_there, good_wake}
 
 -- the first of the greatest has the greatest key
@@ -68,47 +72,31 @@ best_comes_first key (x ∷ xs) t order e =
     ]
 
 or_swap : (a b c : Bool) → a || (b || c) ≡ b || (a || c)
-or_swap true true c = refl
-or_swap true false c = refl
-or_swap false true c = refl
-or_swap false false c = refl
+or_swap true b c = sym (or-true b)
+or_swap false b c = refl
 
 -- in order are the threads that were there
 insert_is_in : (key : ℕ → ℕ) (u x : ℕ) (ys : List ℕ) → is_in u (insert key x ys) ≡ is_in u (x ∷ ys)
 insert_is_in key u x [] = refl
-insert_is_in key u x (y ∷ ys) = by (leb (key y) (key x)) (ap (λ b. eqb u y || b) (insert_is_in key u x ys) ∙ or_swap (eqb u y) (eqb u x) (is_in u ys))
-  where
-    by : (b : Bool) → is_in u (y ∷ insert key x ys) ≡ is_in u (x ∷ y ∷ ys) → is_in u (if b then x ∷ y ∷ ys else y ∷ insert key x ys) ≡ is_in u (x ∷ y ∷ ys)
-    by true h = refl
-    by false h = h
+insert_is_in key u x (y ∷ ys) =
+    elim (leb (key y) (key x)) as (λ b. is_in u (if b then x ∷ y ∷ ys else y ∷ insert key x ys) ≡ is_in u (x ∷ y ∷ ys)) [
+      | true ↦ refl
+      | false ↦ ap (λ b. eqb u y || b) (insert_is_in key u x ys) ∙ or_swap (eqb u y) (eqb u x) (is_in u ys)
+    ]
 
 pub in_order_is_in : (key : ℕ → ℕ) (u : ℕ) (ts : List ℕ) → is_in u (in_order key ts) ≡ is_in u ts
 in_order_is_in key u [] = refl
 in_order_is_in key u (t ∷ ts) = insert_is_in key u t (in_order key ts) ∙ ap (λ b. eqb u t || b) (in_order_is_in key u ts)
 
-neither : (a b : Bool) → a || b ≡ false → (a ≡ false) × (b ≡ false)
-neither true b h = absurd (let e : true ≡ false = h in cc)
-neither false b h = (refl, h)
-
-both_false : (a b : Bool) → a ≡ false → b ≡ false → a || b ≡ false
-both_false true b h k = h
-both_false false b h k = k
-
 IsOrder-insert : (key : ℕ → ℕ) (x : ℕ) (ys : List ℕ) → IsOrder ys → 1 ≤ x → x ≤ 64 → is_in x ys ≡ false → IsOrder (insert key x ys)
 IsOrder-insert key x [] order low high away = (low, high, refl, tt)
 IsOrder-insert key x (y ∷ ys) order low high away =
-    let parts = neither (eqb x y) (is_in x ys) away in
+    let parts = or_parts (eqb x y) (is_in x ys) away in
     let alone : eqb y x ≡ false = ne_eqb y x (λ e. eqb-false x y parts.0 (sym e)) in
-    by (leb (key y) (key x)) (
-      order.0,
-      order.1,
-      insert_is_in key y x ys ∙ both_false (eqb y x) (is_in y ys) alone order.2,
-      IsOrder-insert key x ys order.3 low high parts.1,
-    )
-  where
-    by : (b : Bool) → IsOrder (y ∷ insert key x ys) → IsOrder (if b then x ∷ y ∷ ys else y ∷ insert key x ys)
-    by true h = (low, high, away, order)
-    by false h = h
+    elim (leb (key y) (key x)) as (λ b. IsOrder (if b then x ∷ y ∷ ys else y ∷ insert key x ys)) [
+      | true ↦ (low, high, away, order)
+      | false ↦ (order.0, order.1, insert_is_in key y x ys ∙ or_from (eqb y x) (is_in y ys) alone order.2, IsOrder-insert key x ys order.3 low high parts.1)
+    ]
 
 -- and each of them once
 pub IsOrder-in_order : (key : ℕ → ℕ) (ts : List ℕ) → IsOrder ts → IsOrder (in_order key ts)
@@ -116,87 +104,54 @@ IsOrder-in_order key [] order = tt
 IsOrder-in_order key (t ∷ ts) order =
     IsOrder-insert key t (in_order key ts) (IsOrder-in_order key ts order.3) order.0 order.1 (in_order_is_in key t ts ∙ order.2)
 
--- a wake changes no other thread
-retake_elsewhere : (g : Made) (m t u count : ℕ) (reply : RetakeReply) (o : Option Mutex) → u ≢ t → (retake_of g m o t count reply).state.threads u ≡ g.state.threads u
-retake_elsewhere g m t u count reply None ne = refl
-retake_elsewhere g m t u count reply (Some mutex) ne = by (is_free mutex.holder)
+-- a wake changes one thread, who then waits for no condition
+abbrev Woken : Outcome → ℕ → (ℕ → Thread) → Type 0
+Woken g t threads = (x : Thread) × (threads ≡ put g.state.threads t x) × (IsGood g.state → (d : ℕ) → waits_on d x.standing ≡ false)
+
+retaken : (g : Outcome) (t c m count : ℕ) (deadline : Option ℕ) (reply : RetakeReply) (o : Option Mutex) → standings g.state t ≡ Waits (Cond c m deadline count)
+    → g.state.mutexes m ≡ o → Woken g t (retake_of (leave g c t) m o t count reply).state.threads
+retaken g t c m count deadline reply None e none =
+    (g.state.threads t, sym (put_got g.state.threads t), λ good d. absurd (never false (sym (ap is_some none) ∙ mutex_there g.state t c m count deadline good e) refl))
+retaken g t c m count deadline reply (Some mutex) e there = by (is_free mutex.holder)
   where
-    by : (b : Bool) → (if b then give g m mutex t count reply else requeue g m mutex t count reply).state.threads u ≡ g.state.threads u
-    by true = put_other g.state.threads t _ u ne
-    by false = put_other g.state.threads t _ u ne
+    by : (b : Bool) → Woken g t (if b then give (leave g c t) m mutex t count reply else requeue (leave g c t) m mutex t count reply).state.threads
+    by true = (_, refl, λ good d. refl)
+    by false = (_, refl, λ good d. refl)
 
-wake_elsewhere_by : (g : Made) (t u : ℕ) (reply : RetakeReply) (st : Standing) → u ≢ t → (wake_by g t reply st).state.threads u ≡ g.state.threads u
-wake_elsewhere_by g t u reply Absent ne = refl
-wake_elsewhere_by g t u reply Ready ne = refl
-wake_elsewhere_by g t u reply (Waits (Join v)) ne = refl
-wake_elsewhere_by g t u reply (Waits (OfMutex m)) ne = refl
-wake_elsewhere_by g t u reply (Waits (Cond c m deadline count)) ne = retake_elsewhere (leave g c t) m t u count reply (g.state.mutexes m) ne
-wake_elsewhere_by g t u reply (Waits (Reacquire m other count)) ne = refl
-wake_elsewhere_by g t u reply (Ended value) ne = refl
+woken_from : (g : Outcome) (t : ℕ) (reply : RetakeReply) (st : Standing) → standings g.state t ≡ st → Woken g t (wake_from g t reply (wait_of st)).state.threads
+woken_from g t reply (Waits (Cond c m deadline count)) e = retaken g t c m count deadline reply (g.state.mutexes m) e refl
+woken_from g t reply st e = (g.state.threads t, sym (put_got g.state.threads t), λ good d. ap (waits_on d) e)
 
-pub wake_elsewhere : (g : Made) (t u : ℕ) (reply : RetakeReply) → u ≢ t → (wake g t reply).state.threads u ≡ g.state.threads u
-wake_elsewhere g t u reply ne = wake_elsewhere_by g t u reply (g.state.threads t).standing ne
+pub wake_elsewhere : (g : Outcome) (t u : ℕ) (reply : RetakeReply) → u ≢ t → (wake g t reply).state.threads u ≡ g.state.threads u
+wake_elsewhere g t u reply ne =
+    let woken = woken_from g t reply (standings g.state t) refl in
+    ap (λ (f : ℕ → Thread). f u) woken.1 ∙ put_other g.state.threads t woken.0 u ne
 
--- who is woken waits for no condition
-retake_awake : (g : Made) (m t d count : ℕ) (reply : RetakeReply) (o : Option Mutex) → is_some o ≡ true → waits_on d ((retake_of g m o t count reply).state.threads t).standing ≡ false
-retake_awake g m t d count reply None there = absurd (let e : false ≡ true = there in cc)
-retake_awake g m t d count reply (Some mutex) there = by (is_free mutex.holder)
-  where
-    by : (b : Bool) → waits_on d ((if b then give g m mutex t count reply else requeue g m mutex t count reply).state.threads t).standing ≡ false
-    by true = at_same (λ (x : Thread). waits_on d x.standing) g.state.threads t t _ refl
-    by false = at_same (λ (x : Thread). waits_on d x.standing) g.state.threads t t _ refl
+-- who waits for a condition after a wake is another thread, and waited before
+waits_after : (g : Outcome) (t u d : ℕ) (reply : RetakeReply) → IsGood g.state → waits_on d (standings (wake g t reply).state u) ≡ true
+    → (u ≢ t) × (waits_on d (standings g.state u) ≡ true)
+waits_after g t u d reply good h =
+    let woken = woken_from g t reply (standings g.state t) refl in
+    each_put (λ v (x : Thread). waits_on d x.standing ≡ true → (v ≢ t) × (waits_on d (standings g.state v) ≡ true)) g.state.threads t woken.0
+    (λ k. absurd (never (waits_on d woken.0.standing) k (woken.2 good d))) (λ v ne k. (ne, k)) u
+    (ap (λ (f : ℕ → Thread). waits_on d (f u).standing) (sym woken.1) ∙ h)
 
-wake_awake_by : (g : Made) (t d : ℕ) (reply : RetakeReply) (st : Standing) → IsGood g.state → (g.state.threads t).standing ≡ st
-    → waits_on d ((wake_by g t reply st).state.threads t).standing ≡ false
-wake_awake_by g t d reply Absent good e = ap (waits_on d) e
-wake_awake_by g t d reply Ready good e = ap (waits_on d) e
-wake_awake_by g t d reply (Waits (Join v)) good e = ap (waits_on d) e
-wake_awake_by g t d reply (Waits (OfMutex m)) good e = ap (waits_on d) e
-wake_awake_by g t d reply (Waits (Cond c m deadline count)) good e = retake_awake (leave g c t) m t d count reply (g.state.mutexes m) (mutex_there g.state t c m count deadline good e)
-wake_awake_by g t d reply (Waits (Reacquire m other count)) good e = ap (waits_on d) e
-wake_awake_by g t d reply (Ended value) good e = ap (waits_on d) e
-
--- a wake puts nobody to wait for a condition
-stays_awake : (g : Made) (t u d : ℕ) (reply : RetakeReply) → IsGood g.state → waits_on d (g.state.threads u).standing ≡ false
-    → waits_on d ((wake g t reply).state.threads u).standing ≡ false
-stays_awake g t u d reply good h =
-    elim (cases_eq u t) [
-      | inl same ↦ subst (λ v. waits_on d ((wake g t reply).state.threads v).standing ≡ false) (sym same) (wake_awake_by g t d reply (g.state.threads t).standing good refl)
-      | inr other ↦ ap (λ (x : Thread). waits_on d x.standing) (wake_elsewhere g t u reply other) ∙ h
-    ]
-
-all_stay_awake : (g : Made) (ts : List ℕ) (u d : ℕ) → IsGood g.state → waits_on d (g.state.threads u).standing ≡ false
-    → waits_on d ((wake_all g ts).state.threads u).standing ≡ false
-all_stay_awake g [] u d good h = h
-all_stay_awake g (t ∷ ts) u d good h = all_stay_awake (wake g t (Answer 0)) ts u d (good_wake g t (Answer 0) good) (stays_awake g t u d (Answer 0) good h)
-
-all_woken : (g : Made) (ts : List ℕ) (u d : ℕ) → IsGood g.state → is_in u ts ≡ true → waits_on d ((wake_all g ts).state.threads u).standing ≡ false
-all_woken g [] u d good h = absurd (let e : false ≡ true = h in cc)
-all_woken g (t ∷ ts) u d good h =
-    let next = good_wake g t (Answer 0) good in
-    elim (cases_Bool (eqb u t)) [
-      | inl is ↦
-          all_stay_awake (wake g t (Answer 0)) ts u d next
-          (subst (λ v. waits_on d ((wake g t (Answer 0)).state.threads v).standing ≡ false) (sym (eqb-true u t is)) (wake_awake_by g t d (Answer 0) (g.state.threads t).standing good refl))
-      | inr un ↦ all_woken (wake g t (Answer 0)) ts u d next (rw un at h)
-    ]
-
--- after a broadcast nobody waits for the condition
-woken_by : (s : State) (c : ℕ) (condition : Condition) → IsGood s → s.conditions c ≡ Some condition
-    → (u : ℕ) → waits_on c ((wake_all (begun s) (in_order (eff s) condition.waiters)).state.threads u).standing ≡ false
-woken_by s c condition good here u =
-    let listed : is_in u condition.waiters ≡ waits_on c (s.threads u).standing = ap (λ o. is_in u (cond_waiters o)) (sym here) ∙ (good.conditions c).listed u in
-    elim (cases_Bool (waits_on c (s.threads u).standing)) [
-      | inl waits ↦ all_woken (begun s) (in_order (eff s) condition.waiters) u c good (in_order_is_in (eff s) u condition.waiters ∙ listed ∙ waits)
-      | inr awake ↦ all_stay_awake (begun s) (in_order (eff s) condition.waiters) u c good awake
-    ]
+-- where every waiter is woken, nobody waits
+all_woken : (g : Outcome) (ts : List ℕ) (u d : ℕ) → IsGood g.state → (waits_on d (standings g.state u) ≡ true → is_in u ts ≡ true)
+    → waits_on d (standings (wake_all g ts).state u) ≡ false
+all_woken g [] u d good listed = false_from_ne_true _ (λ h. never false (listed h) refl)
+all_woken g (t ∷ ts) u d good listed =
+    all_woken (wake g t (Answer 0)) ts u d (good_wake g t (Answer 0) good) (λ h.
+    let was = waits_after g t u d (Answer 0) good h in
+    sym (ap (λ b. b || is_in u ts) (ne_eqb u t was.0)) ∙ listed was.1)
 
 everyone_by : (s : State) (t c : ℕ) (o : Option Condition) → IsGood s → s.conditions c ≡ o → is_some o ≡ true
-    → (u : ℕ) → waits_on c ((cond_broadcast_of s t o).made.state.threads u).standing ≡ false
-everyone_by s t c None good here there u = absurd (let e : false ≡ true = there in cc)
+    → (u : ℕ) → waits_on c ((cond_broadcast_of s t o).outcome.state.threads u).standing ≡ false
+everyone_by s t c None good here there u = absurd (never false there refl)
 everyone_by s t c (Some condition) good here there u =
     kept (λ (x : Thread). waits_on c x.standing) (wake_all (begun s) (in_order (eff s) condition.waiters)).state.threads t u _ refl
-    ∙ woken_by s c condition good here u
+    ∙ all_woken (begun s) (in_order (eff s) condition.waiters) u c good (λ h.
+    in_order_is_in (eff s) u condition.waiters ∙ ap (λ o. is_in u (cond_waiters o)) (sym here) ∙ (good.conditions c).listed u ∙ h)
 
 pub everyone_is_woken : EveryoneIsWoken
-everyone_is_woken s t c good there u = everyone_by s t c.a (s.conditions c.a) good refl there u
+everyone_is_woken s t c good there u = everyone_by s t c.a0 (s.conditions c.a0) good refl there u

@@ -1,13 +1,14 @@
 -- The calls: of each its refusals in order, then its effect, then its reply.
-use Rattle.std.specs.Prelude.{ℕ, ◌%◌, ◌==◌, ◌||◌, Bool, true, not, if◌then◌else◌, [], ◌∷◌, Option, Some, None, length, min}
-use Rattle.thread_base.specs.declared.Errno.TheVariants.{ESRCH, EBADF, EAGAIN, EFAULT, EINVAL, EDEADLK, ENOSYS}
+use Rattle.std.specs.Prelude.{ℕ, ◌%◌, ◌==◌, ◌||◌, Bool, true, not, if◌then◌else◌, List, [], ◌∷◌, ◌++◌, Option, Some, None, length, min}
+use Rattle.thread_base.specs.declared.Errno.TheVariants.{ESRCH, EBADF, EAGAIN, EFAULT, EINVAL, EDEADLK}
 use Rattle.rv_exec.specs.Window.{fits}
 use Rattle.posix_model.specs.State.{State, Standing, Absent, Ready, Waits, Ended, no_thread}
-use Rattle.posix_model.specs.Changes.{Made, begun, set_thread, append, to_end}
+use Rattle.posix_model.specs.Changes.{Outcome, begun, set_thread, append, to_end}
 use Rattle.posix_model.specs.Threads.{exists, free_number, has_joiner, are_attributes, new_thread}
 use Rattle.posix_model.specs.Leaving.{start_exit}
-pub use Rattle.posix_model.specs.Replies.{Called, arguments, call_number, values, refused, refusing, blocked}
-use Rattle.posix_model.specs.MutexCalls.{mutex_row}
+pub use Rattle.posix_model.specs.Replies.{Called, Row, Entry, row_of, arguments, call_number, values, refused, refusing, blocked}
+use Rattle.posix_model.specs.MutexCalls.{mutex_calls}
+use Rattle.posix_model.specs.ConditionCalls.{condition_calls}
 use Rattle.posix_model.specs.declared.Arguments.{Arguments}
 use Rattle.posix_model.specs.declared.Report.{Report}
 use Rattle.posix_model.specs.declared.Reply.TheVariants.{Exit as Exits, End}
@@ -17,7 +18,7 @@ use Rattle.posix_model.specs.declared.Ending.TheVariants.{Exit}
 
 -- so many bytes of a buffer were written to a descriptor, where there are any
 abbrev pub with_output : Arguments → ℕ → Report → Report
-with_output c count report = if count == 0 then report else record report { out_fd = c.a; out_buf = c.b; out_len = count }
+with_output c count report = if count == 0 then report else record report { out_fd = c.a0; out_buf = c.a1; out_len = count }
 
 -- the most bytes that one write writes (this project's limit)
 abbrev pub most_written : ℕ
@@ -31,17 +32,17 @@ written s t c count = values (record { state = s; report = with_output c count (
 abbrev pub write : State → ℕ → Arguments → Called
 write s t c =
     refusing s t (
-    (not ((c.a == 1) || (c.a == 2)), EBADF)
-    ∷ (not (fits (length s.memory) c.b c.d), EFAULT) ∷ [])
-    (written s t c (min c.d most_written))
+    (not ((c.a0 == 1) || (c.a0 == 2)), EBADF)
+    ∷ (not (fits (length s.memory) c.a1 c.a2), EFAULT) ∷ [])
+    (written s t c (min c.a2 most_written))
 
 -- 93: exit(value), of the whole process (this project's own)
 abbrev pub exit : State → ℕ → Arguments → Called
-exit s t c = record { made = begun (record s { over = Some (Exit (c.a % 256)) }); reply = End }
+exit s t c = record { outcome = begun (record s { over = Some (Exit (c.a0 % 256)) }); reply = End }
 
 -- a routine, a stack or attributes with which no thread can be made
 abbrev pub cannot_start : Arguments → Bool
-cannot_start c = not (c.a % 4 == 0) || (not (c.d % 16 == 0) || not (are_attributes c.e))
+cannot_start c = not (c.a0 % 4 == 0) || (not (c.a2 % 16 == 0) || not (are_attributes c.a3))
 
 -- a new thread of a number, which is ready; with no number left there is none
 abbrev pub created : State → ℕ → Arguments → Option ℕ → Called
@@ -54,7 +55,7 @@ create s t c = refusing s t ((cannot_start c, EINVAL) ∷ []) (created s t c (fr
 
 -- 257: exit of the calling thread with a value (POSIX.1 pthread_exit)
 abbrev pub exit_thread : State → ℕ → Arguments → Called
-exit_thread s t c = record { made = begun (start_exit s t c.a); reply = Exits }
+exit_thread s t c = record { outcome = begun (start_exit s t c.a0); reply = Exits }
 
 -- whether nobody may join or detach a thread any more
 abbrev pub is_taken : State → ℕ → Bool
@@ -71,10 +72,10 @@ join_by s t u (Ended value) = values (begun (set_thread s u no_thread)) t 0 valu
 abbrev pub join : State → ℕ → Arguments → Called
 join s t c =
     refusing s t (
-    (c.a == t, EDEADLK)
-    ∷ (not (exists s c.a), ESRCH)
-    ∷ (is_taken s c.a, EINVAL) ∷ [])
-    (join_by s t c.a (s.threads c.a).standing)
+    (c.a0 == t, EDEADLK)
+    ∷ (not (exists s c.a0), ESRCH)
+    ∷ (is_taken s c.a0, EINVAL) ∷ [])
+    (join_by s t c.a0 (s.threads c.a0).standing)
 
 -- a thread is detached; the number of one that has ended is free
 abbrev pub detached_by : State → ℕ → Standing → State
@@ -87,40 +88,44 @@ detached_by s u (Ended value) = set_thread s u no_thread
 abbrev pub detach : State → ℕ → Arguments → Called
 detach s t c =
     refusing s t (
-    (not (exists s c.a), ESRCH)
-    ∷ (is_taken s c.a, EINVAL) ∷ [])
-    (values (begun (detached_by s c.a (s.threads c.a).standing)) t 0 0)
+    (not (exists s c.a0), ESRCH)
+    ∷ (is_taken s c.a0, EINVAL) ∷ [])
+    (values (begun (detached_by s c.a0 (s.threads c.a0).standing)) t 0 0)
 
 -- 260: self() (POSIX.1 pthread_self)
-abbrev pub self_number : State → ℕ → Called
-self_number s t = values (begun s) t 0 t
+abbrev pub self_number : State → ℕ → Arguments → Called
+self_number s t c = values (begun s) t 0 t
 
 -- 261: yield() (POSIX.1 sched_yield)
-abbrev pub yield : State → ℕ → Called
-yield s t = values (begun (to_end s t)) t 0 0
+abbrev pub yield : State → ℕ → Arguments → Called
+yield s t c = values (begun (to_end s t)) t 0 0
 
--- the row of a number; one that the table does not have answers ENOSYS
-unfoldable pub table_row : State → ℕ → ℕ → Arguments → Called
-table_row s t number c =
-    if number == 64 then write s t c
-    else if number == 93 then exit s t c
-    else if number == 256 then create s t c
-    else if number == 257 then exit_thread s t c
-    else if number == 258 then join s t c
-    else if number == 259 then detach s t c
-    else if number == 260 then self_number s t
-    else if number == 261 then yield s t
-    else mutex_row s t number c
+-- the calls of input, output and signals
+abbrev pub signal_calls : List Entry
+signal_calls = (64, write) ∷ []
 
--- the row of a call's number; a call that is not built answers ENOSYS
-unfoldable pub call_row : (ℕ → Bool) → State → ℕ → ℕ → Arguments → Called
-call_row is_built s t number c = if is_built number then table_row s t number c else refused s t ENOSYS
+-- exit, and the calls of threads
+abbrev pub thread_calls : List Entry
+thread_calls =
+    (93, exit) ∷ (256, create) ∷ (257, exit_thread) ∷ (258, join) ∷ (259, detach) ∷ (260, self_number) ∷ (261, yield) ∷ []
+
+-- the calls of mutexes and of condition variables
+abbrev pub sync_calls : List Entry
+sync_calls = mutex_calls ++ condition_calls
+
+-- the call table
+abbrev pub table : List Entry
+table = signal_calls ++ (thread_calls ++ sync_calls)
+
+-- the row of a call's number; a number that the table does not have answers ENOSYS
+unfoldable pub call_row : State → ℕ → ℕ → Arguments → Called
+call_row s t number c = row_of table number s t c
 
 -- a call that was made, with what is told of it
-abbrev pub told_call : ℕ → ℕ → Arguments → Called → Made
+abbrev pub told_call : ℕ → ℕ → Arguments → Called → Outcome
 told_call t number c called =
-    record called.made { report = record called.made.report { tid = t; head = Call number (c.a ∷ c.b ∷ c.d ∷ c.e ∷ []) called.reply } }
+    record called.outcome { report = record called.outcome.report { tid = t; head = Call number (c.a0 ∷ c.a1 ∷ c.a2 ∷ c.a3 ∷ []) called.reply } }
 
 -- a call as one change
-abbrev pub call : (ℕ → Bool) → State → ℕ → ℕ → Arguments → Made
-call is_built s t number c = told_call t number c (call_row is_built s t number c)
+abbrev pub call : State → ℕ → ℕ → Arguments → Outcome
+call s t number c = told_call t number c (call_row s t number c)

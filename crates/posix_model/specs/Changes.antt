@@ -10,12 +10,12 @@ use Rattle.posix_model.specs.Reports.{nothing_told}
 use Rattle.posix_model.specs.declared.Report.{Report}
 
 -- a state, and what has been told so far of the move that leads to it
-pub record Made : Type 0 where
+pub record Outcome : Type 0 where
   pub state : State
   pub report : Report
 
 -- a move begins: nothing has changed, and nothing is told
-abbrev pub begun : State → Made
+abbrev pub begun : State → Outcome
 begun s = record { state = s; report = nothing_told }
 
 -- one thread's record changes
@@ -82,7 +82,7 @@ with_answer report t error value = record report {
 }
 
 -- a waiting thread is answered: it goes on behind its call, and becomes ready
-abbrev pub answer : Made → ℕ → ℕ → ℕ → Made
+abbrev pub answer : Outcome → ℕ → ℕ → ℕ → Outcome
 answer g t error value = record {
   state = append g.state t (with_reply (g.state.threads t) error value);
   report = with_answer g.report t error value;
@@ -103,7 +103,7 @@ with_resumed report t (Answer error) = with_answer report t error 0
 with_resumed report t Cancel = report
 
 -- a waiting thread goes on with its mutex: it becomes ready
-abbrev pub go_on : Made → ℕ → RetakeReply → Made
+abbrev pub go_on : Outcome → ℕ → RetakeReply → Outcome
 go_on g t reply = record {
   state = append g.state t (resumed (g.state.threads t) reply);
   report = with_resumed g.report t reply;

@@ -7,7 +7,8 @@ use Rattle.posix_model.specs.State.{State, Thread, Condition, Leaving, Ready, Wa
 use Rattle.posix_model.specs.Scheduling.{chosen}
 use Rattle.posix_model.specs.Changes.{begun}
 use Rattle.posix_model.specs.Conditions.{in_order, wake}
-use Rattle.posix_model.specs.ConditionCalls.{new_condition, cond_init, cond_destroy, cond_wait, cond_signal, cond_broadcast}
+use Rattle.thread_base.specs.Objects.{new_condition}
+use Rattle.posix_model.specs.ConditionCalls.{cond_init, cond_destroy, cond_wait, cond_signal, cond_broadcast}
 use Rattle.posix_model.specs.Leaving.{end_of_thread}
 use Rattle.posix_model.specs.MutexCalls.{mutex_destroy, lock, unlock}
 use Rattle.posix_model.specs.Replies.{Called}
@@ -48,7 +49,7 @@ free_mutex = record two_conditions {
 
 -- the condition of a number after a call
 abbrev pub condition_after : Called → ℕ → Option Condition
-condition_after called c = called.made.state.conditions c
+condition_after called c = called.outcome.state.conditions c
 
 -- a thread waits for a condition with a mutex
 abbrev pub wait_on : State → ℕ → ℕ → ℕ → Called
@@ -60,7 +61,7 @@ ConditionWaits =
     let first : Called = wait_on two_conditions 1 0 0 in
     (reply_of first ≡ Block) × (standing_after first 1 ≡ Waits (Cond 0 0 None 1))
     × (condition_after first 0 ≡ Some (condition_with (Some 0) (3 ∷ 4 ∷ 5 ∷ 1 ∷ []))) × (mutex_after first 0 ≡ Some (mutex_with Normal (Held 6 1) []))
-    × (ready_after first ≡ 2 ∷ 6 ∷ []) × (first.made.report.done ≡ 32) × (mutex_after first 2 ≡ Some (mutex_with Recursive (Held 1 3) []))
+    × (ready_after first ≡ 2 ∷ 6 ∷ []) × (first.outcome.report.done ≡ 32) × (mutex_after first 2 ≡ Some (mutex_with Recursive (Held 1 3) []))
     × (condition_after (wait_on two_conditions 1 1 0) 1 ≡ Some (condition_with (Some 0) (1 ∷ [])))
     × (mutex_after (wait_on two_conditions 1 1 2) 2 ≡ Some (mutex_with Recursive Free []))
 
@@ -77,14 +78,14 @@ abbrev pub Signals : Type 0
 Signals =
     let taken : Called = on cond_signal free_mutex 1 0 in
     let queued : Called = on cond_signal two_conditions 1 0 in
-    let handed : Called = on unlock queued.made.state 1 0 in
+    let handed : Called = on unlock queued.outcome.state 1 0 in
     let idle : Called = on cond_signal two_conditions 1 1 in
     (reply_of taken ≡ Values 0 0) × (condition_after taken 0 ≡ Some (condition_with (Some 0) (3 ∷ 5 ∷ [])))
-    × (mutex_after taken 0 ≡ Some (mutex_with Normal (Held 4 1) [])) × (ready_after taken ≡ 1 ∷ 2 ∷ 4 ∷ []) × (chosen taken.made.state ≡ Some 4)
-    × (taken.made.report.done ≡ 8) × (slice_index_or taken.made.report.values 3 (9, 9) ≡ (0, 0)) × ((taken.made.state.threads 4).registers.pc ≡ 65624)
+    × (mutex_after taken 0 ≡ Some (mutex_with Normal (Held 4 1) [])) × (ready_after taken ≡ 1 ∷ 2 ∷ 4 ∷ []) × (chosen taken.outcome.state ≡ Some 4)
+    × (taken.outcome.report.done ≡ 8) × (slice_index_or taken.outcome.report.values 3 (9, 9) ≡ (0, 0)) × ((taken.outcome.state.threads 4).registers.pc ≡ 65624)
     × (standing_after queued 4 ≡ Waits (Reacquire 0 (Answer 0) 1)) × (mutex_after queued 0 ≡ Some (mutex_with Normal (Held 1 1) (6 ∷ 4 ∷ [])))
-    × (ready_after queued ≡ 1 ∷ 2 ∷ []) × (queued.made.report.done ≡ 0) × ((queued.made.state.threads 4).registers.pc ≡ 65620)
-    × (mutex_after handed 0 ≡ Some (mutex_with Normal (Held 4 1) (6 ∷ []))) × (handed.made.report.done ≡ 8)
+    × (ready_after queued ≡ 1 ∷ 2 ∷ []) × (queued.outcome.report.done ≡ 0) × ((queued.outcome.state.threads 4).registers.pc ≡ 65620)
+    × (mutex_after handed 0 ≡ Some (mutex_with Normal (Held 4 1) (6 ∷ []))) × (handed.outcome.report.done ≡ 8)
     × (reply_of idle ≡ Values 0 0) × (ready_after idle ≡ 1 ∷ 2 ∷ []) × (condition_after idle 1 ≡ Some new_condition)
     × (reply_of (on cond_signal two_conditions 1 9) ≡ Values 22 0)
 
@@ -92,26 +93,26 @@ Signals =
 abbrev pub Broadcasts : Type 0
 Broadcasts =
     let all : Called = on cond_broadcast free_mutex 1 0 in
-    let next : Called = on unlock all.made.state 4 0 in
+    let next : Called = on unlock all.outcome.state 4 0 in
     (in_order (λ t. (free_mutex.threads t).base) (3 ∷ 4 ∷ 5 ∷ []) ≡ 4 ∷ 5 ∷ 3 ∷ [])
     × (reply_of all ≡ Values 0 0) × (condition_after all 0 ≡ Some new_condition) × (mutex_after all 0 ≡ Some (mutex_with Normal (Held 4 1) (5 ∷ 3 ∷ [])))
-    × (ready_after all ≡ 1 ∷ 2 ∷ 4 ∷ []) × (all.made.report.done ≡ 8) × (standing_after all 3 ≡ Waits (Reacquire 0 (Answer 0) 1))
-    × (mutex_after next 0 ≡ Some (mutex_with Normal (Held 5 1) (3 ∷ []))) × (next.made.report.done ≡ 16)
+    × (ready_after all ≡ 1 ∷ 2 ∷ 4 ∷ []) × (all.outcome.report.done ≡ 8) × (standing_after all 3 ≡ Waits (Reacquire 0 (Answer 0) 1))
+    × (mutex_after next 0 ≡ Some (mutex_with Normal (Held 5 1) (3 ∷ []))) × (next.outcome.report.done ≡ 16)
     × (mutex_after (on cond_broadcast two_conditions 1 0) 0 ≡ Some (mutex_with Normal (Held 1 1) (6 ∷ 4 ∷ 5 ∷ 3 ∷ [])))
     × (reply_of (on cond_broadcast two_conditions 1 1) ≡ Values 0 0) × (reply_of (on cond_broadcast two_conditions 1 9) ≡ Values 22 0)
 
 -- a recursive mutex comes back as often as it was locked, at once or from another owner
 abbrev pub SavedCounts : Type 0
 SavedCounts =
-    let waits : State = (wait_on two_conditions 1 1 2).made.state in
+    let waits : State = (wait_on two_conditions 1 1 2).outcome.state in
     let back : Called = on cond_signal waits 2 1 in
-    let held : State = (on lock waits 2 2).made.state in
+    let held : State = (on lock waits 2 2).outcome.state in
     let queued : Called = on cond_signal held 2 1 in
-    let handed : Called = on unlock queued.made.state 2 2 in
+    let handed : Called = on unlock queued.outcome.state 2 2 in
     ((waits.threads 1).standing ≡ Waits (Cond 1 2 None 3)) × (mutex_after back 2 ≡ Some (mutex_with Recursive (Held 1 3) []))
     × (ready_after back ≡ 2 ∷ 1 ∷ []) × (standing_after queued 1 ≡ Waits (Reacquire 2 (Answer 0) 3))
     × (mutex_after queued 2 ≡ Some (mutex_with Recursive (Held 2 1) (1 ∷ []))) × (mutex_after handed 2 ≡ Some (mutex_with Recursive (Held 1 3) []))
-    × (ready_after handed ≡ 2 ∷ 1 ∷ []) × (handed.made.report.done ≡ 1)
+    × (ready_after handed ≡ 2 ∷ 1 ∷ []) × (handed.outcome.report.done ≡ 1)
 
 -- a condition is made, and destroyed where nobody waits; a mutex that waiters of a condition use is not destroyed
 abbrev pub InitsAndDestroys : Type 0
@@ -121,7 +122,7 @@ InitsAndDestroys =
     × (condition_after (on cond_destroy two_conditions 1 1) 1 ≡ None) × (reply_of (on cond_destroy two_conditions 1 1) ≡ Values 0 0)
     × (reply_of (on cond_destroy two_conditions 1 0) ≡ Values 16 0) × (reply_of (on cond_destroy two_conditions 1 9) ≡ Values 22 0)
     × (reply_of (on mutex_destroy free_mutex 1 0) ≡ Values 16 0) × (reply_of (on mutex_destroy free_mutex 1 1) ≡ Values 0 0)
-    × (reply_of (on mutex_destroy (on cond_broadcast free_mutex 1 0).made.state 1 0) ≡ Values 16 0)
+    × (reply_of (on mutex_destroy (on cond_broadcast free_mutex 1 0).outcome.state 1 0) ≡ Values 16 0)
 
 -- who is woken where the owner of its mutex has ended waits for it for ever
 abbrev pub WokenInVain : Type 0
@@ -138,5 +139,5 @@ CancelledWaits =
     let handed : Called = on unlock queued 1 0 in
     ((queued.threads 4).standing ≡ Waits (Reacquire 0 Cancel 1)) × ((queued.threads 4).registers.pc ≡ 65620)
     × (mutex_after handed 0 ≡ Some (mutex_with Normal (Held 4 1) (6 ∷ []))) × (standing_after handed 4 ≡ Ready)
-    × ((handed.made.state.threads 4).phase ≡ Leaving 0xFFFFFFFF) × ((handed.made.state.threads 4).registers.pc ≡ 0xFFFFFFE0)
-    × (handed.made.report.done ≡ 0)
+    × ((handed.outcome.state.threads 4).phase ≡ Leaving 0xFFFFFFFF) × ((handed.outcome.state.threads 4).registers.pc ≡ 0xFFFFFFE0)
+    × (handed.outcome.report.done ≡ 0)

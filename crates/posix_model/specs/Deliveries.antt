@@ -4,7 +4,7 @@ use Rattle.std.specs.List.{range_with_len}
 use Rattle.thread_base.specs.Maps.{put}
 use Rattle.thread_base.specs.Priority.{tids}
 use Rattle.posix_model.specs.State.{State}
-use Rattle.posix_model.specs.Changes.{Made, begun}
+use Rattle.posix_model.specs.Changes.{Outcome, begun}
 use Rattle.posix_model.specs.declared.Head.TheVariants.{Fault, Deliver}
 use Rattle.posix_model.specs.declared.Ending.TheVariants.{Killed}
 
@@ -40,14 +40,14 @@ abbrev pub set_pending : State → ℕ → ℕ → ℕ → State
 set_pending s t sig count = record s { pending = put s.pending t (put (s.pending t) sig count) }
 
 -- a fault leaves registers and memory, and its signal pends on its thread
-abbrev pub faulted : State → ℕ → ℕ → Made
+abbrev pub faulted : State → ℕ → ℕ → Outcome
 faulted s t sig = record {
   state = set_pending s t sig (s.pending t sig + 1);
   report = record (begun s).report { tid = t; head = Fault sig };
 }
 
 -- the delivery of a signal, with its whole count; its default action ends the process
-abbrev pub delivered : State → Option Delivery → Made
+abbrev pub delivered : State → Option Delivery → Outcome
 delivered s None = begun s
 delivered s (Some d) = record {
   state = record (set_pending s d.thread d.signal 0) { over = Some (Killed d.signal) };
@@ -55,5 +55,5 @@ delivered s (Some d) = record {
 }
 
 -- the next delivery is made
-abbrev pub deliver : State → Made
+abbrev pub deliver : State → Outcome
 deliver s = delivered s (next_delivery s)

@@ -1,15 +1,14 @@
 -- Small cases of the definitions, which the checker computes.
-use Rattle.std.specs.Prelude.{ℕ, ◌≡◌, ◌==◌, true, false, List, [], ◌∷◌, ◌++◌, codes, replicate, slice_index_or, Option, Some, None}
+use Rattle.std.specs.Prelude.{ℕ, ◌≡◌, true, List, [], ◌∷◌, ◌++◌, codes, replicate, slice_index_or, Option, Some, None}
 use Rattle.thread_base.specs.Maps.{put}
 use Rattle.thread_base.specs.Priority.{effective, first_greatest}
-use Rattle.rv_exec.specs.declared.Special.TheVariants.{Cleanup}
-use Rattle.posix_model.specs.State.{State, Thread, Standing, Absent, Ready, Waits, Ended, Leaving, no_thread, none_pending, no_mutexes, no_conditions}
-use Rattle.posix_model.specs.Built.{Built}
+use Rattle.rv_exec.specs.declared.Special.TheVariants.{Handler, Cleanup, Start}
+use Rattle.posix_model.specs.State.{State, Thread, Standing, Absent, Ready, Waits, Ended, Normal, Leaving, no_thread, none_pending, no_mutexes, no_conditions}
 use Rattle.posix_model.specs.Scheduling.{chosen}
 use Rattle.posix_model.specs.Threads.{first_registers}
 use Rattle.posix_model.specs.Leaving.{end_of_thread}
 use Rattle.posix_model.specs.Calls.{Called, create, join, detach, yield, call_row}
-use Rattle.posix_model.specs.Instructions.{special_return}
+use Rattle.posix_model.specs.Instructions.{returned}
 use Rattle.posix_model.specs.Reports.{nothing_told}
 use Rattle.posix_model.specs.Changes.{with_answer}
 use Rattle.posix_model.specs.Lines.{lines, run_line, end_lines}
@@ -74,7 +73,7 @@ six_threads = record {
 
 -- four arguments
 abbrev pub with_arguments : ℕ → ℕ → ℕ → ℕ → Arguments
-with_arguments a b d e = record { a = a; b = b; d = d; e = e }
+with_arguments a0 a1 a2 a3 = record { a0 = a0; a1 = a1; a2 = a2; a3 = a3 }
 
 -- the reply to a call
 abbrev pub reply_of : Called → Reply
@@ -82,11 +81,11 @@ reply_of called = called.reply
 
 -- the ready list after a call
 abbrev pub ready_after : Called → List ℕ
-ready_after called = called.made.state.ready
+ready_after called = called.outcome.state.ready
 
 -- what a thread is doing after a call
 abbrev pub standing_after : Called → ℕ → Standing
-standing_after called t = (called.made.state.threads t).standing
+standing_after called t = (called.outcome.state.threads t).standing
 
 -- create gives the least number, behind all others; a thread of greater priority runs at once, and the
 -- creator keeps its place
@@ -94,8 +93,8 @@ abbrev pub Create : Type 0
 Create =
     let plain : Called = create six_threads 1 (with_arguments 65796 7 131072 0) in
     let urgent : Called = create six_threads 1 (with_arguments 65796 7 131072 131340) in
-    (reply_of plain ≡ Values 0 7) × (ready_after plain ≡ 1 ∷ 2 ∷ 5 ∷ 6 ∷ 7 ∷ []) × ((plain.made.state.threads 7).base ≡ 8)
-    × (chosen plain.made.state ≡ Some 1) × ((urgent.made.state.threads 7).base ≡ 12) × (chosen urgent.made.state ≡ Some 7)
+    (reply_of plain ≡ Values 0 7) × (ready_after plain ≡ 1 ∷ 2 ∷ 5 ∷ 6 ∷ 7 ∷ []) × ((plain.outcome.state.threads 7).base ≡ 8)
+    × (chosen plain.outcome.state ≡ Some 1) × ((urgent.outcome.state.threads 7).base ≡ 12) × (chosen urgent.outcome.state ≡ Some 7)
     × (ready_after urgent ≡ 1 ∷ 2 ∷ 5 ∷ 6 ∷ 7 ∷ [])
 
 -- the state in which every number is in use
@@ -136,7 +135,7 @@ abbrev pub Detaches : Type 0
 Detaches =
     let going : Called = detach six_threads 1 (with_arguments 6 0 0 0) in
     let done : Called = detach six_threads 1 (with_arguments 3 0 0 0) in
-    (reply_of going ≡ Values 0 0) × ((going.made.state.threads 6).detached ≡ true) × (standing_after going 6 ≡ Ready)
+    (reply_of going ≡ Values 0 0) × ((going.outcome.state.threads 6).detached ≡ true) × (standing_after going 6 ≡ Ready)
     × (reply_of done ≡ Values 0 0) × (standing_after done 3 ≡ Absent)
     × (reply_of (detach six_threads 1 (with_arguments 9 0 0 0)) ≡ Values 3 0)
     × (reply_of (detach six_threads 1 (with_arguments 5 0 0 0)) ≡ Values 22 0)
@@ -145,8 +144,8 @@ Detaches =
 -- a yield goes behind the others of its priority
 abbrev pub Yields : Type 0
 Yields =
-    let yielded : Called = yield six_threads 1 in
-    (reply_of yielded ≡ Values 0 0) × (ready_after yielded ≡ 2 ∷ 5 ∷ 6 ∷ 1 ∷ []) × (chosen yielded.made.state ≡ Some 2)
+    let yielded : Called = yield six_threads 1 (with_arguments 0 0 0 0) in
+    (reply_of yielded ≡ Values 0 0) × (ready_after yielded ≡ 2 ∷ 5 ∷ 6 ∷ 1 ∷ []) × (chosen yielded.outcome.state ≡ Some 2)
 
 -- the end of a thread answers its joiner and frees its number; a detached one is free at once; another keeps
 -- its value; the last one ends the process
@@ -162,17 +161,19 @@ Ends =
     × ((end_of_thread six_threads 6 5).state.over ≡ None)
     × ((end_of_thread (record six_threads { threads = put (λ t. no_thread) 1 (thread_with Ready) }) 1 5).state.over ≡ Some (ExitWith 0))
 
--- nothing is built but write
-abbrev pub write_alone : Built
-write_alone = record { calls = λ number. number == 64; returns = λ which. false }
+-- a number that the call table does not have answers ENOSYS
+abbrev pub Unknown : Type 0
+Unknown =
+    (reply_of (call_row six_threads 1 261 (with_arguments 0 0 0 0)) ≡ Values 0 0)
+    × (reply_of (call_row six_threads 1 17 (with_arguments 0 0 0 0)) ≡ Values 38 0)
+    × (reply_of (call_row six_threads 1 294 (with_arguments 0 0 0 0)) ≡ Values 38 0)
 
--- a call that is not built answers ENOSYS, and a return that is not built is not due
-abbrev pub NotBuilt : Type 0
-NotBuilt =
-    (reply_of (call_row write_alone.calls six_threads 1 261 (with_arguments 0 0 0 0)) ≡ Values 38 0)
-    × (reply_of (call_row (λ number. true) six_threads 1 261 (with_arguments 0 0 0 0)) ≡ Values 0 0)
-    × (reply_of (call_row (λ number. true) six_threads 1 17 (with_arguments 0 0 0 0)) ≡ Values 38 0)
-    × ((special_return write_alone (record six_threads { threads = λ t. record (thread_with Ready) { phase = Leaving 5 } }) 1 Cleanup).report.head ≡ Fault 11)
+-- a special return that is not due faults
+abbrev pub NotDue : Type 0
+NotDue =
+    ((returned six_threads 1 Handler Normal).report.head ≡ Fault 11)
+    × ((returned six_threads 1 Cleanup Normal).report.head ≡ Fault 11)
+    × ((returned six_threads 1 Start (Leaving 5)).report.head ≡ Fault 11)
 
 -- the report of a call of a thread
 abbrev pub call_report : ℕ → ℕ → List ℕ → Reply → Report

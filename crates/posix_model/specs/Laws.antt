@@ -1,9 +1,9 @@
--- Laws over moves and whole runs, whatever is built.
+-- Laws over moves and whole runs.
 use Rattle.std.specs.Prelude.{ℕ, ◌≡◌, ◌≤◌, ◌⊎◌, true, false, List, ◌∷◌, Some, is_some}
 use Rattle.thread_base.specs.Orders.{without, IsOrder}
 use Rattle.thread_base.specs.Priority.{first_greatest, IsEffective}
 use Rattle.posix_model.specs.State.{State, waits_on}
-use Rattle.posix_model.specs.Built.{Rules}
+use Rattle.posix_model.specs.declared.Settings.{Settings}
 use Rattle.posix_model.specs.Scheduling.{own, edge, eff}
 use Rattle.posix_model.specs.Conditions.{in_order}
 use Rattle.posix_model.specs.ConditionCalls.{cond_broadcast}
@@ -15,46 +15,46 @@ use Rattle.posix_model.specs.declared.Move.{Move}
 use Rattle.posix_model.specs.declared.Ending.{Ending}
 
 -- from a start, a list of moves is a whole run with this ending
-pub record IsWholeRun (rules : Rules) (start : Moment) (moves : List Move) (ending : Ending) : Type 0 where
-  pub run : IsRun rules start moves
-  pub ends : Ends rules (after rules.built start moves) ending
+pub record IsWholeRun (settings : Settings) (start : Moment) (moves : List Move) (ending : Ending) : Type 0 where
+  pub run : IsRun settings start moves
+  pub ends : Ends settings (after start moves) ending
 
--- two whole runs from one start under the same rules have the same moves and the same ending
+-- two whole runs from one start under the same settings have the same moves and the same ending
 abbrev pub OneRun : Type 0
 OneRun =
-    (rules : Rules) (start : Moment) (moves others : List Move) (ending other : Ending) →
-    IsWholeRun rules start moves ending → IsWholeRun rules start others other → (moves ≡ others) × (ending ≡ other)
+    (settings : Settings) (start : Moment) (moves others : List Move) (ending other : Ending) →
+    IsWholeRun settings start moves ending → IsWholeRun settings start others other → (moves ≡ others) × (ending ≡ other)
 
 -- the run has ended by one ending and by no other, and no move is allowed
-pub record HasEnded (rules : Rules) (now : Moment) : Type 0 where
+pub record HasEnded (settings : Settings) (now : Moment) : Type 0 where
   pub ending : Ending
-  pub ends : Ends rules now ending
-  pub alone : (other : Ending) → Ends rules now other → other ≡ ending
-  pub stopped : (move : Move) → Allowed rules now move → ⊥
+  pub ends : Ends settings now ending
+  pub alone : (other : Ending) → Ends settings now other → other ≡ ending
+  pub stopped : (move : Move) → Allowed settings now move → ⊥
 
 -- one move is allowed and no other, and the run has not ended
-pub record GoesOn (rules : Rules) (now : Moment) : Type 0 where
+pub record GoesOn (settings : Settings) (now : Moment) : Type 0 where
   pub move : Move
-  pub allowed : Allowed rules now move
-  pub alone : (other : Move) → Allowed rules now other → other ≡ move
-  pub open_ended : (ending : Ending) → Ends rules now ending → ⊥
+  pub allowed : Allowed settings now move
+  pub alone : (other : Move) → Allowed settings now other → other ≡ move
+  pub open_ended : (ending : Ending) → Ends settings now ending → ⊥
 
 -- within the budget the run has ended, or a move is allowed
 abbrev pub Progress : Type 0
-Progress = (rules : Rules) (now : Moment) → now.made ≤ rules.settings.budget → HasEnded rules now ⊎ GoesOn rules now
+Progress = (settings : Settings) (now : Moment) → now.instructions ≤ settings.budget → HasEnded settings now ⊎ GoesOn settings now
 
 -- within the budget every run so far goes on to a whole run
 abbrev pub Completion : Type 0
 Completion =
-    (rules : Rules) (now : Moment) → now.made ≤ rules.settings.budget →
-    (moves : List Move) × (ending : Ending) × IsWholeRun rules now moves ending
+    (settings : Settings) (now : Moment) → now.instructions ≤ settings.budget →
+    (moves : List Move) × (ending : Ending) × IsWholeRun settings now moves ending
 
 -- the start is good, and every run from a good state leads to a good state
 abbrev pub Goodness : Type 0
 Goodness =
     ((memory : List ℕ) (entry : ℕ) → IsGood (start memory entry).state)
-    × ((rules : Rules) (now : Moment) (move : Move) → IsGood now.state → Allowed rules now move → IsGood (moved rules.built now move).state)
-    × ((rules : Rules) (now : Moment) (moves : List Move) → IsGood now.state → IsRun rules now moves → IsGood (after rules.built now moves).state)
+    × ((settings : Settings) (now : Moment) (move : Move) → IsGood now.state → Allowed settings now move → IsGood (moved now move).state)
+    × ((settings : Settings) (now : Moment) (moves : List Move) → IsGood now.state → IsRun settings now moves → IsGood (after now moves).state)
 
 -- a thread's effective priority is the greatest own priority over the thread itself and every thread from which
 -- a chain of waits leads to it (POSIX.1 priority inheritance)
@@ -71,5 +71,5 @@ BestComesFirst =
 -- after a broadcast nobody waits for the condition (POSIX.1 pthread_cond_broadcast)
 abbrev pub EveryoneIsWoken : Type 0
 EveryoneIsWoken =
-    (s : State) (t : ℕ) (c : Arguments) → IsGood s → is_some (s.conditions c.a) ≡ true →
-    (u : ℕ) → waits_on c.a ((cond_broadcast s t c).made.state.threads u).standing ≡ false
+    (s : State) (t : ℕ) (c : Arguments) → IsGood s → is_some (s.conditions c.a0) ≡ true →
+    (u : ℕ) → waits_on c.a0 ((cond_broadcast s t c).outcome.state.threads u).standing ≡ false

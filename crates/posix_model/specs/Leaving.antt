@@ -1,9 +1,9 @@
 -- The exit of a thread and its end (POSIX.1 pthread_exit, pthread_join).
-use Rattle.std.specs.Prelude.{ℕ, true, if◌then◌else◌, map, Option, Some, None}
+use Rattle.std.specs.Prelude.{ℕ, ◌+◌, true, if◌then◌else◌, List, map, Option, Some, None, slice_index}
 use Rattle.thread_base.specs.Maps.{put}
 use Rattle.thread_base.specs.Orders.{without}
 use Rattle.posix_model.specs.State.{State, Thread, Ended, no_thread}
-use Rattle.posix_model.specs.Changes.{Made, begun, set_thread, in_exit, answer}
+use Rattle.posix_model.specs.Changes.{Outcome, begun, set_thread, in_exit, answer}
 use Rattle.posix_model.specs.Threads.{joiner, some_live}
 use Rattle.posix_model.specs.Mutexes.{orphaned}
 use Rattle.posix_model.specs.Lines.{sig_numbers}
@@ -15,14 +15,14 @@ abbrev pub start_exit : State → ℕ → ℕ → State
 start_exit s t value = set_thread s t (in_exit (s.threads t) value)
 
 -- who waits for the end of a thread is answered its value
-abbrev pub answer_joiner : Made → ℕ → Option ℕ → Made
+abbrev pub answer_joiner : Outcome → ℕ → Option ℕ → Outcome
 answer_joiner g value None = g
 answer_joiner g value (Some u) = answer g u 0 value
 
 -- what is left at the number of a thread that ended: its value, where nobody has got it and somebody may
-abbrev pub left_at : Thread → ℕ → Option ℕ → Thread
-left_at thread value None = if thread.detached then no_thread else record thread { standing = Ended value }
-left_at thread value (Some u) = no_thread
+abbrev pub remains : Thread → ℕ → Option ℕ → Thread
+remains thread value None = if thread.detached then no_thread else record thread { standing = Ended value }
+remains thread value (Some u) = no_thread
 
 -- a thread is gone from the ready list, the mutexes that it has are orphans, and what pends on it is dropped
 abbrev pub without_thread : State → ℕ → Thread → State
@@ -37,18 +37,22 @@ without_thread s t left = record s {
 abbrev pub over_with_last : State → State
 over_with_last s = if some_live s then s else record s { over = Some (Exit 0) }
 
+-- the counts of a table by signal, each with some more
+abbrev pub plus_each : List ℕ → (ℕ → ℕ) → List ℕ
+plus_each counts more = map (λ sig. slice_index counts sig + more sig) sig_numbers
+
 -- it is told that a thread ended with a value, and what was dropped with it
 abbrev pub with_end : Report → (ℕ → ℕ) → ℕ → Report
-with_end report dropped value = record report { gone = true; gone_value = value; drops = map dropped sig_numbers }
+with_end report dropped value = record report { gone = true; gone_value = value; drops = plus_each report.drops dropped }
 
--- a thread ends, behind the answer to its joiner
-abbrev pub ended : Made → ℕ → Thread → (ℕ → ℕ) → ℕ → Made
+-- a thread ends, after the answer to its joiner
+abbrev pub ended : Outcome → ℕ → Thread → (ℕ → ℕ) → ℕ → Outcome
 ended g t left dropped value = record { state = over_with_last (without_thread g.state t left); report = with_end g.report dropped value }
 
 -- the end of a thread with a value, by who waits for it (POSIX.1 pthread_join)
-abbrev pub end_with : State → ℕ → ℕ → Option ℕ → Made
-end_with s t value who = ended (answer_joiner (begun s) value who) t (left_at (s.threads t) value who) (s.pending t) value
+abbrev pub end_with : State → ℕ → ℕ → Option ℕ → Outcome
+end_with s t value who = ended (answer_joiner (begun s) value who) t (remains (s.threads t) value who) (s.pending t) value
 
 -- the end of a thread with a value
-abbrev pub end_of_thread : State → ℕ → ℕ → Made
+abbrev pub end_of_thread : State → ℕ → ℕ → Outcome
 end_of_thread s t value = end_with s t value (joiner s t)

@@ -1,5 +1,4 @@
 pub mod State
-pub mod Built
 pub mod Reports
 pub mod Lines
 pub mod Scheduling

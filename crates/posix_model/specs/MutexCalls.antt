@@ -1,19 +1,19 @@
 -- The calls of mutexes: of each its refusals in order, then its effect, then its reply.
 -- The priority protocols are not built: bits 4 and 5 of the attributes are among those that are 0, every mutex is
 -- plain, and the refusal of lock and trylock about a ceiling has no case.
-use Rattle.std.specs.Prelude.{ℕ, ◌-◌, ◌%◌, ◌==◌, ◌&&◌, ◌||◌, Bool, true, false, not, if◌then◌else◌, [], ◌∷◌, Option, Some, None, is_some, nat_lt, bit_and}
+use Rattle.std.specs.Prelude.{ℕ, ◌-◌, ◌%◌, ◌==◌, ◌&&◌, ◌||◌, Bool, true, false, not, if◌then◌else◌, List, [], ◌∷◌, Option, Some, None, is_some, nat_lt, bit_and}
 use Rattle.thread_base.specs.Holders.{is_held_by, count_of, is_free}
+use Rattle.thread_base.specs.Objects.{free_mutex}
 use Rattle.thread_base.specs.declared.Errno.TheVariants.{EPERM, EAGAIN, EBUSY, EINVAL, EDEADLK}
-use Rattle.thread_base.specs.declared.mutex.Holder.TheVariants.{Free, Held}
+use Rattle.thread_base.specs.declared.mutex.Holder.TheVariants.{Held}
 use Rattle.thread_base.specs.declared.mutex.Kind.{Kind}
 use Rattle.thread_base.specs.declared.mutex.Kind.TheVariants.{Normal, ErrorCheck, Recursive}
 use Rattle.thread_base.specs.declared.mutex.Protocol.TheVariants.{Plain}
 use Rattle.posix_model.specs.State.{State, Mutex}
-use Rattle.posix_model.specs.Changes.{Made, begun}
+use Rattle.posix_model.specs.Changes.{Outcome, begun}
 use Rattle.posix_model.specs.Mutexes.{most_locks, set_mutex, locked_by, with_waiter, best_waiter, hand}
 use Rattle.posix_model.specs.Conditions.{is_used}
-use Rattle.posix_model.specs.ConditionCalls.{condition_row}
-use Rattle.posix_model.specs.Replies.{Called, values, refused, refusing, blocked}
+use Rattle.posix_model.specs.Replies.{Called, Entry, values, refused, refusing, blocked}
 use Rattle.posix_model.specs.declared.Arguments.{Arguments}
 use Rattle.posix_model.specs.declared.Wait.TheVariants.{Mutex as OfMutex}
 
@@ -29,19 +29,19 @@ kind_by word = if word % 4 == 0 then Normal else if word % 4 == 1 then ErrorChec
 
 -- a new mutex, which is free
 abbrev pub new_mutex : ℕ → Mutex
-new_mutex word = record { kind = kind_by word; protocol = Plain; holder = Free; waiters = [] }
+new_mutex word = free_mutex (kind_by word) Plain
 
 -- a number or attributes with which no mutex can be made
 abbrev pub cannot_init : Arguments → Bool
-cannot_init c = not (nat_lt c.a 256) || not (are_mutex_attributes c.b)
+cannot_init c = not (nat_lt c.a0 256) || not (are_mutex_attributes c.a1)
 
 -- 274: mutex_init(mutex, attributes, ceiling) (POSIX.1 pthread_mutex_init)
 abbrev pub mutex_init : State → ℕ → Arguments → Called
 mutex_init s t c =
     refusing s t (
     (cannot_init c, EINVAL)
-    ∷ (is_some (s.mutexes c.a), EBUSY) ∷ [])
-    (values (begun (set_mutex s c.a (Some (new_mutex c.b)))) t 0 0)
+    ∷ (is_some (s.mutexes c.a0), EBUSY) ∷ [])
+    (values (begun (set_mutex s c.a0 (Some (new_mutex c.a1)))) t 0 0)
 
 -- a mutex is there no more, where it is free and no waiter of a condition uses it
 abbrev pub destroy_of : State → ℕ → ℕ → Option Mutex → Called
@@ -51,7 +51,7 @@ destroy_of s t m (Some mutex) =
 
 -- 275: mutex_destroy(mutex) (POSIX.1 pthread_mutex_destroy)
 abbrev pub mutex_destroy : State → ℕ → Arguments → Called
-mutex_destroy s t c = destroy_of s t c.a (s.mutexes c.a)
+mutex_destroy s t c = destroy_of s t c.a0 (s.mutexes c.a0)
 
 -- it answers an error where its owner locks it again
 abbrev pub checks : Kind → Bool
@@ -100,7 +100,7 @@ lock_of s t m (Some mutex) =
 
 -- 276: lock(mutex) (POSIX.1 pthread_mutex_lock)
 abbrev pub lock : State → ℕ → Arguments → Called
-lock s t c = lock_of s t c.a (s.mutexes c.a)
+lock s t c = lock_of s t c.a0 (s.mutexes c.a0)
 
 -- a mutex is locked where nobody has to wait
 abbrev pub trylock_of : State → ℕ → ℕ → Option Mutex → Called
@@ -113,10 +113,10 @@ trylock_of s t m (Some mutex) =
 
 -- 277: trylock(mutex) (POSIX.1 pthread_mutex_trylock)
 abbrev pub trylock : State → ℕ → Arguments → Called
-trylock s t c = trylock_of s t c.a (s.mutexes c.a)
+trylock s t c = trylock_of s t c.a0 (s.mutexes c.a0)
 
 -- its owner has locked a mutex once less; with the last lock it is handed over
-abbrev pub released : State → ℕ → ℕ → Mutex → Made
+abbrev pub released : State → ℕ → ℕ → Mutex → Outcome
 released s t m mutex =
     if count_of mutex.holder == 1 then hand (begun s) m mutex (best_waiter s mutex)
     else begun (set_mutex s m (Some (record mutex { holder = Held t (count_of mutex.holder - 1) })))
@@ -128,14 +128,8 @@ unlock_of s t m (Some mutex) = refusing s t ((not (is_held_by mutex.holder t), E
 
 -- 278: unlock(mutex) (POSIX.1 pthread_mutex_unlock)
 abbrev pub unlock : State → ℕ → Arguments → Called
-unlock s t c = unlock_of s t c.a (s.mutexes c.a)
+unlock s t c = unlock_of s t c.a0 (s.mutexes c.a0)
 
--- the rows of mutexes by number; another number may be that of a condition's row
-abbrev pub mutex_row : State → ℕ → ℕ → Arguments → Called
-mutex_row s t number c =
-    if number == 274 then mutex_init s t c
-    else if number == 275 then mutex_destroy s t c
-    else if number == 276 then lock s t c
-    else if number == 277 then trylock s t c
-    else if number == 278 then unlock s t c
-    else condition_row s t number c
+-- the calls of mutexes
+abbrev pub mutex_calls : List Entry
+mutex_calls = (274, mutex_init) ∷ (275, mutex_destroy) ∷ (276, lock) ∷ (277, trylock) ∷ (278, unlock) ∷ []

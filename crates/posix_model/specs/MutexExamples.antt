@@ -40,7 +40,7 @@ five_mutexes = record six_threads {
 
 -- the mutex of a number after a call
 abbrev pub mutex_after : Called → ℕ → Option Mutex
-mutex_after called m = called.made.state.mutexes m
+mutex_after called m = called.outcome.state.mutexes m
 
 -- a call of one number
 abbrev pub on : (State → ℕ → Arguments → Called) → State → ℕ → ℕ → Called
@@ -69,9 +69,9 @@ LockRefusals =
 abbrev pub Counts : Type 0
 Counts =
     let thrice : Called = on lock five_mutexes 1 2 in
-    let twice : Called = on unlock thrice.made.state 1 2 in
-    let once : Called = on unlock twice.made.state 1 2 in
-    let freed : Called = on unlock once.made.state 1 2 in
+    let twice : Called = on unlock thrice.outcome.state 1 2 in
+    let once : Called = on unlock twice.outcome.state 1 2 in
+    let freed : Called = on unlock once.outcome.state 1 2 in
     (reply_of thrice ≡ Values 0 0) × (mutex_after thrice 2 ≡ Some (mutex_with Recursive (Held 1 3) []))
     × (mutex_after twice 2 ≡ Some (mutex_with Recursive (Held 1 2) [])) × (mutex_after once 2 ≡ Some (mutex_with Recursive (Held 1 1) []))
     × (reply_of freed ≡ Values 0 0) × (mutex_after freed 2 ≡ Some (mutex_with Recursive Free []))
@@ -93,13 +93,13 @@ Trylocks =
 abbrev pub HandsOver : Type 0
 HandsOver =
     let first : Called = on unlock five_mutexes 1 0 in
-    let second : Called = on unlock first.made.state 3 0 in
-    let third : Called = on unlock second.made.state 5 0 in
-    let fourth : Called = on unlock third.made.state 4 0 in
-    let last : Called = on unlock fourth.made.state 6 0 in
+    let second : Called = on unlock first.outcome.state 3 0 in
+    let third : Called = on unlock second.outcome.state 5 0 in
+    let fourth : Called = on unlock third.outcome.state 4 0 in
+    let last : Called = on unlock fourth.outcome.state 6 0 in
     (reply_of first ≡ Values 0 0) × (mutex_after first 0 ≡ Some (mutex_with Normal (Held 3 1) (4 ∷ 5 ∷ 6 ∷ [])))
-    × (ready_after first ≡ 1 ∷ 2 ∷ 3 ∷ []) × (standing_after first 3 ≡ Ready) × (chosen first.made.state ≡ Some 3)
-    × (first.made.report.done ≡ 4) × (slice_index_or first.made.report.values 2 (9, 9) ≡ (0, 0))
+    × (ready_after first ≡ 1 ∷ 2 ∷ 3 ∷ []) × (standing_after first 3 ≡ Ready) × (chosen first.outcome.state ≡ Some 3)
+    × (first.outcome.report.done ≡ 4) × (slice_index_or first.outcome.report.values 2 (9, 9) ≡ (0, 0))
     × (mutex_after second 0 ≡ Some (mutex_with Normal (Held 5 1) (4 ∷ 6 ∷ [])))
     × (mutex_after third 0 ≡ Some (mutex_with Normal (Held 4 1) (6 ∷ [])))
     × (mutex_after fourth 0 ≡ Some (mutex_with Normal (Held 6 1) []))
@@ -130,4 +130,4 @@ Orphans =
     × (left.mutexes 4 ≡ Some (mutex_with Normal Free [])) × (left.ready ≡ 2 ∷ [])
     × ((left.threads 3).standing ≡ Waits (OfMutex 0)) × (reply_of (on lock left 2 1) ≡ Block) × (reply_of (on trylock left 2 1) ≡ Values 16 0)
     × (reply_of (on unlock left 2 0) ≡ Values 1 0) × (reply_of (on mutex_destroy left 2 1) ≡ Values 16 0)
-    × (chosen (on lock left 2 0).made.state ≡ None)
+    × (chosen (on lock left 2 0).outcome.state ≡ None)

@@ -37,4 +37,4 @@ start_state memory entry = record {
 
 -- a run at its start
 abbrev pub start : List ℕ → ℕ → Moment
-start memory entry = record { state = start_state memory entry; made = 0; last = None }
+start memory entry = record { state = start_state memory entry; instructions = 0; last = None }

@@ -2,9 +2,7 @@
 use Rattle.std.specs.Prelude.{ℕ, ◌==◌, Bool, true, false, List, replicate, Option, Some, None}
 use Rattle.thread_base.specs.declared.Policy.{Policy}
 use Rattle.thread_base.specs.declared.Policy.TheVariants.{Other}
-use Rattle.thread_base.specs.declared.mutex.Holder.{Holder}
-use Rattle.thread_base.specs.declared.mutex.Kind.{Kind}
-use Rattle.thread_base.specs.declared.mutex.Protocol.{Protocol}
+pub use Rattle.thread_base.specs.Objects.{Mutex, Condition}
 use Rattle.posix_model.specs.declared.Ending.{Ending}
 use Rattle.posix_model.specs.declared.Wait.{Wait}
 use Rattle.posix_model.specs.declared.Wait.TheVariants.{Join, Mutex as OfMutex, Cond, Reacquire}
@@ -35,18 +33,6 @@ pub record Thread : Type 0 where
   pub detached : Bool
   pub phase : Phase
   pub standing : Standing
-
--- a mutex (POSIX.1 mutexes)
-pub record Mutex : Type 0 where
-  pub kind : Kind
-  pub protocol : Protocol
-  pub holder : Holder
-  pub waiters : List ℕ  -- in order of arrival
-
--- a condition variable (POSIX.1 condition variables)
-pub record Condition : Type 0 where
-  pub mutex : Option ℕ  -- that with which its waiters wait, where it has any
-  pub waiters : List ℕ  -- in order of arrival
 
 -- the machine
 pub record State : Type 0 where
@@ -103,72 +89,73 @@ is_live Ready = true
 is_live (Waits wait) = true
 is_live (Ended value) = false
 
--- a wait is for the end of a thread
-abbrev pub awaits_end : ℕ → Wait → Bool
-awaits_end t (Join u) = u == t
-awaits_end t (OfMutex m) = false
-awaits_end t (Cond c m deadline count) = false
-awaits_end t (Reacquire m reply count) = false
+-- what a thread waits for: nothing, the end of a thread, a mutex or a condition
+pub data Target : Type 0 where
+  Nothing : Target
+  EndOf : (thread : ℕ) → Target
+  MutexAt : (mutex : ℕ) → Target
+  ConditionAt : (condition : ℕ) → Target
 
--- a wait is for a mutex: to lock it, or to have it back after a condition
-abbrev pub awaits_mutex : ℕ → Wait → Bool
-awaits_mutex m (Join u) = false
-awaits_mutex m (OfMutex k) = k == m
-awaits_mutex m (Cond c k deadline count) = false
-awaits_mutex m (Reacquire k reply count) = k == m
+-- what a wait is for; who waits to have a mutex back waits for that mutex
+abbrev pub aim : Wait → Target
+aim (Join u) = EndOf u
+aim (OfMutex m) = MutexAt m
+aim (Cond c m deadline count) = ConditionAt c
+aim (Reacquire m reply count) = MutexAt m
 
--- a wait is for a condition
-abbrev pub awaits_condition : ℕ → Wait → Bool
-awaits_condition c (Join u) = false
-awaits_condition c (OfMutex m) = false
-awaits_condition c (Cond k m deadline count) = k == c
-awaits_condition c (Reacquire m reply count) = false
+-- what a thread waits for
+abbrev pub target : Standing → Target
+target Absent = Nothing
+target Ready = Nothing
+target (Waits wait) = aim wait
+target (Ended value) = Nothing
 
--- the mutex with which a wait for a condition is made
-abbrev pub mutex_beside : Wait → Option ℕ
-mutex_beside (Join u) = None
-mutex_beside (OfMutex m) = None
-mutex_beside (Cond c m deadline count) = Some m
-mutex_beside (Reacquire m reply count) = None
-
--- how often a wait gives a thread its mutex: once, or as often as it had it before its wait for a condition
-abbrev pub count_by : Wait → ℕ
-count_by (Join u) = 1
-count_by (OfMutex m) = 1
-count_by (Cond c m deadline count) = count
-count_by (Reacquire m reply count) = count
+-- it is this target, and not nothing
+abbrev pub is_target : Target → Target → Bool
+is_target (EndOf t) (EndOf u) = u == t
+is_target (MutexAt m) (MutexAt k) = k == m
+is_target (ConditionAt c) (ConditionAt k) = k == c
+is_target a b = false
 
 -- a thread waits for the end of a thread (POSIX.1 pthread_join)
 abbrev pub joins : ℕ → Standing → Bool
-joins t Absent = false
-joins t Ready = false
-joins t (Waits wait) = awaits_end t wait
-joins t (Ended value) = false
+joins t standing = is_target (EndOf t) (target standing)
 
--- a thread waits for a mutex (POSIX.1 pthread_mutex_lock, pthread_cond_wait)
+-- a thread waits for a mutex: to lock it, or to have it back after a condition (POSIX.1 pthread_mutex_lock, pthread_cond_wait)
 abbrev pub wants : ℕ → Standing → Bool
-wants m Absent = false
-wants m Ready = false
-wants m (Waits wait) = awaits_mutex m wait
-wants m (Ended value) = false
+wants m standing = is_target (MutexAt m) (target standing)
 
 -- a thread waits for a condition (POSIX.1 pthread_cond_wait)
 abbrev pub waits_on : ℕ → Standing → Bool
-waits_on c Absent = false
-waits_on c Ready = false
-waits_on c (Waits wait) = awaits_condition c wait
-waits_on c (Ended value) = false
+waits_on c standing = is_target (ConditionAt c) (target standing)
+
+-- the wait of a thread that waits
+abbrev pub wait_of : Standing → Option Wait
+wait_of Absent = None
+wait_of Ready = None
+wait_of (Waits wait) = Some wait
+wait_of (Ended value) = None
+
+-- the mutex with which a wait for a condition is made
+abbrev pub mutex_beside : Option Wait → Option ℕ
+mutex_beside None = None
+mutex_beside (Some (Join u)) = None
+mutex_beside (Some (OfMutex m)) = None
+mutex_beside (Some (Cond c m deadline count)) = Some m
+mutex_beside (Some (Reacquire m reply count)) = None
+
+-- how often a wait gives a thread its mutex: once, or as often as it had it before its wait for a condition
+abbrev pub count_by : Option Wait → ℕ
+count_by None = 1
+count_by (Some (Join u)) = 1
+count_by (Some (OfMutex m)) = 1
+count_by (Some (Cond c m deadline count)) = count
+count_by (Some (Reacquire m reply count)) = count
 
 -- the mutex with which a thread waits for a condition (POSIX.1 pthread_cond_wait)
 abbrev pub mutex_with : Standing → Option ℕ
-mutex_with Absent = None
-mutex_with Ready = None
-mutex_with (Waits wait) = mutex_beside wait
-mutex_with (Ended value) = None
+mutex_with standing = mutex_beside (wait_of standing)
 
 -- how often a thread has the mutex that its wait gives it (POSIX.1 pthread_cond_wait)
 abbrev pub count_due : Standing → ℕ
-count_due Absent = 1
-count_due Ready = 1
-count_due (Waits wait) = count_by wait
-count_due (Ended value) = 1
+count_due standing = count_by (wait_of standing)

@@ -67,11 +67,11 @@ first_registers routine argument stack =
 -- a new thread
 abbrev pub new_thread : Thread → Arguments → Thread
 new_thread creator c = record {
-  registers = first_registers c.a c.b c.d;
-  base = base_by creator.base c.e;
-  policy = policy_by creator.policy c.e;
+  registers = first_registers c.a0 c.a1 c.a2;
+  base = base_by creator.base c.a3;
+  policy = policy_by creator.policy c.a3;
   used = 0;
-  detached = says_detached c.e;
+  detached = says_detached c.a3;
   phase = Normal;
   standing = Ready;
 }

@@ -2,7 +2,7 @@
 use Rattle.std.specs.Prelude.{ℕ, ◌==◌, ◌≡◌, ◌⊎◌, Bool, false, if◌then◌else◌, List, [], ◌∷◌, ◌++◌, map, sum, Option, Some, None}
 use Rattle.thread_base.specs.Priority.{tids}
 use Rattle.posix_model.specs.State.{State}
-use Rattle.posix_model.specs.Built.{Built, Rules}
+use Rattle.posix_model.specs.declared.Settings.{Settings}
 use Rattle.posix_model.specs.Runs.{Moment, make, moved, after, IsRun, Ends}
 use Rattle.posix_model.specs.Lines.{lines, run_line, end_lines, sig_numbers}
 use Rattle.posix_model.specs.declared.Move.{Move}
@@ -20,15 +20,15 @@ switch_line before None = []
 switch_line before (Some t) = if is_last t before then [] else run_line t
 
 -- the text of one move
-abbrev pub move_text : Built → Moment → Move → List ℕ
-move_text built now move =
-    switch_line now.last (moved built now move).last
-    ++ lines (make built now.state move).report (moved built now move).state.memory
+abbrev pub move_text : Moment → Move → List ℕ
+move_text now move =
+    switch_line now.last (moved now move).last
+    ++ lines (make now.state move).report (moved now move).state.memory
 
 -- the text of a list of moves
-abbrev pub text : Built → Moment → List Move → List ℕ
-text built now [] = []
-text built now (move ∷ moves) = move_text built now move ++ text built (moved built now move) moves
+abbrev pub text : Moment → List Move → List ℕ
+text now [] = []
+text now (move ∷ moves) = move_text now move ++ text (moved now move) moves
 
 -- how many of a signal still pend, over all threads
 abbrev pub left_of : State → ℕ → ℕ
@@ -43,14 +43,14 @@ abbrev pub end_text : Moment → Ending → List ℕ
 end_text now ending = end_lines (left now.state) ending
 
 -- a list of moves is a whole run from a start, and this is its text, whose last line names its ending
-pub record IsWholeText (rules : Rules) (start : Moment) (ending : Ending) (trace : List ℕ) : Type 0 where
+pub record IsWholeText (settings : Settings) (start : Moment) (ending : Ending) (trace : List ℕ) : Type 0 where
   pub moves : List Move
-  pub run : IsRun rules start moves
-  pub ends : Ends rules (after rules.built start moves) ending
-  pub told : trace ≡ text rules.built start moves ++ end_text (after rules.built start moves) ending
+  pub run : IsRun settings start moves
+  pub ends : Ends settings (after start moves) ending
+  pub told : trace ≡ text start moves ++ end_text (after start moves) ending
 
 -- a list of moves is a run from a start, and this is its text so far, or its whole text
-pub record IsText (rules : Rules) (start : Moment) (trace : List ℕ) : Type 0 where
+pub record IsText (settings : Settings) (start : Moment) (trace : List ℕ) : Type 0 where
   pub moves : List Move
-  pub run : IsRun rules start moves
-  pub told : (trace ≡ text rules.built start moves) ⊎ ((ending : Ending) × Ends rules (after rules.built start moves) ending × (trace ≡ text rules.built start moves ++ end_text (after rules.built start moves) ending))
+  pub run : IsRun settings start moves
+  pub told : (trace ≡ text start moves) ⊎ ((ending : Ending) × Ends settings (after start moves) ending × (trace ≡ text start moves ++ end_text (after start moves) ending))

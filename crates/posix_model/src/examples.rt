@@ -1,4 +1,5 @@
 //! Small cases of the definitions, each computed by the checker. The functions do nothing.
+#![tactic(auto, unfolding(thread_base::specs::Maps::put, thread_base::specs::Priority::tids, thread_base::specs::Priority::leads, thread_base::specs::Priority::effective, thread_base::specs::Objects::condition_numbers, crate::specs::Scheduling::eff, crate::specs::Scheduling::chosen, crate::specs::Calls::call_row, crate::specs::Reports::nothing_told))]
 
 ghost use Rattle.posix_model.specs.Examples as examples;
 ghost use Rattle.posix_model.specs.MutexExamples as mutexes;
@@ -54,9 +55,14 @@ pub fn ends()
     ensures { examples.Ends }
 {}
 
-/// What is not built answers ENOSYS, or is not due.
-pub fn not_built()
-    ensures { examples.NotBuilt }
+/// A number that the call table does not have answers ENOSYS.
+pub fn unknown()
+    ensures { examples.Unknown }
+{}
+
+/// A special return that is not due faults.
+pub fn not_due()
+    ensures { examples.NotDue }
 {}
 
 /// The lines of a program in which a thread yields, is joined and ends.

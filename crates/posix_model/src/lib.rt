@@ -4,7 +4,7 @@
 ghost use Rattle.std.specs.Prelude.{◌≡◌};
 ghost use Rattle.posix_model.specs.Reports.{nothing_told};
 ghost use Rattle.posix_model.specs.Laws.{OneRun, Progress, Completion, Goodness, PriorityIsInherited, BestComesFirst, EveryoneIsWoken};
-ghost use Rattle.posix_model.specs.State.{awaits_end};
+ghost use Rattle.posix_model.specs.State.{EndOf, aim, is_target};
 ghost use Rattle.thread_base.specs.Numbers.{code_of};
 
 use rv_exec::Special;
@@ -84,7 +84,7 @@ pub enum Wait {
 impl Wait {
     /// Whether it is for the end of a thread.
     pub fn is_for_end_of(self, t: Tid) -> bool
-        ensures { result ≡ awaits_end t self }
+        ensures { result ≡ is_target (EndOf t) (aim self) }
     {
         match self {
             Wait::Join(u) => u.number() == t.number(),
@@ -98,10 +98,10 @@ impl Wait {
 /// The arguments of a call, which stand in a0, a1, a2 and a3.
 #[derive(Clone, Copy, Debug, PartialEq, Eq)]
 pub struct Arguments {
-    pub a: u32,
-    pub b: u32,
-    pub d: u32,
-    pub e: u32,
+    pub a0: u32,
+    pub a1: u32,
+    pub a2: u32,
+    pub a3: u32,
 }
 
 /// What a run is given: how many instructions it may make, and how many ticks a turn of a thread lasts.
@@ -218,32 +218,38 @@ pub fn one_run()
 {}
 
 /// The law of progress: within the budget a run has ended, or a move is allowed.
+#[tactic(auto, using(crate::proofs::RunLaws::progress))]
 pub fn progress()
     ensures { Progress }
 {}
 
 /// The law of good states: the start is good, and every move that is allowed keeps a good state good.
+#[tactic(auto, using(crate::proofs::GoodMoves::goodness))]
 pub fn goodness()
     ensures { Goodness }
 {}
 
 /// The law of inherited priority: a thread's effective priority is the greatest own priority over the thread
 /// itself and every thread from which a chain of waits leads to it, by POSIX.1.
+#[tactic(auto, using(crate::proofs::PriorityLaws::priority_is_inherited))]
 pub fn priority_is_inherited()
     ensures { PriorityIsInherited }
 {}
 
 /// A broadcast wakes first whom a signal would wake, and then the others in the same way.
+#[tactic(auto, using(crate::proofs::WakeLemmas::best_comes_first))]
 pub fn best_comes_first()
     ensures { BestComesFirst }
 {}
 
 /// After a broadcast nobody waits for the condition.
+#[tactic(auto, using(crate::proofs::WakeLemmas::everyone_is_woken))]
 pub fn everyone_is_woken()
     ensures { EveryoneIsWoken }
 {}
 
 /// Within the budget every run so far goes on to a whole run.
+#[tactic(auto, using(crate::proofs::RunLaws::completion))]
 pub fn completion()
     ensures { Completion }
 {}

@@ -1,5 +1,0 @@
-use Rattle.posix_model.proofs.Computed.{trylocks}
-use Rattle.posix_model.proofs.examples.trylocks.Goals as goal
-
-pub returns : goal.returns
-returns c = trylocks
