@@ -1,119 +1,22 @@
--- Small changes keep the priorities of the ready list current, and the first of the greatest is then the chosen thread.
+-- What keeps the priorities of the ready list those of its threads, and the first of the greatest the chosen thread.
 use Rattle.std.proofs.Common.{◌≡◌, ◌≢◌, ◌∙◌, ap, sym, refl, subst, inl, inr, ℕ, ◌≤◌, Bool, true, false, List, [], ◌∷◌, ◌++◌, Some, None, arith}
 use Rattle.std.specs.Prelude.{if◌then◌else◌}
-use Rattle.std.proofs.lemmas.Bool.{cases_eq}
+use Rattle.std.proofs.lemmas.Bool.{cases_eq, ne_eqb}
 use Rattle.thread_base.specs.Maps.{put}
-use Rattle.thread_base.specs.Orders.{is_in, without, IsOrder}
-use Rattle.thread_base.specs.Priority.{Leads, here, along, IsEffective, first_greatest}
-use Rattle.thread_base.proofs.MapLemmas.{put_same, put_other}
-use Rattle.thread_base.proofs.OrderLemmas.{within, not_in-without, is_in-without, is_in-push, is_in-to_end}
+use Rattle.thread_base.specs.Orders.{is_in, without}
+use Rattle.thread_base.specs.Priority.{Leads, here, along, IsEffective, leads, effective, greatest, tids, first_greatest}
+use Rattle.thread_base.proofs.MapLemmas.{put_same, put_other, at_same, at_other, kept}
+use Rattle.thread_base.proofs.OrderLemmas.{not_in-without, is_in-without, is_in-push, is_in-to_end}
 use Rattle.thread_base.proofs.PriorityLemmas.{first_agree}
 use Rattle.thread_base.proofs.ReachLemmas.{effective_alone}
 use Rattle.posix_model.specs.State.{State, Thread}
 use Rattle.posix_model.specs.Scheduling.{own, edge, eff, chosen}
-use Rattle.posix_model.specs.Changes.{Made}
+use Rattle.posix_model.specs.Changes.{set_thread}
 use Rattle.posix_model.specs.Threads.{some_live}
 use Rattle.posix_model.specs.Leaving.{over_with_last}
 use Rattle.posix_model.specs.declared.Ending.TheVariants.{Exit}
-use Rattle.posix_model.specs.declared.RetakeReply.TheVariants.{Answer as AnswerBack, Cancel}
 use Rattle.posix_model.proofs.PriorityLaws.{priority_is_inherited}
-use Rattle.kernel_state.specs.View.{AreCurrent}
-use Rattle.kernel_state.specs.Changing.{Can, change_by, prios_by}
-use Rattle.kernel_state.specs.declared.change.Change.{Change}
-use Rattle.kernel_state.specs.declared.change.Change.TheVariants.{Reply, ToEnd, Create, StartExit, Await, Answer, Detach, Free, End, Output, Over, Pend, Deliver, MakeMutex, DestroyMutex, Hold, AddMutexWaiter, DropMutexWaiter, MakeCondition, DestroyCondition, EnterCondition, LeaveCondition, AwaitNext, GoOn}
-
--- one thread and the ready list change
-current_but : (s r : State) (p q : ℕ → ℕ) (t : ℕ) → AreCurrent p s
-    → ((u : ℕ) → u ≢ t → is_in u r.ready ≡ true → is_in u s.ready ≡ true) → ((u : ℕ) → u ≢ t → (r.threads u).base ≡ (s.threads u).base)
-    → ((u : ℕ) → u ≢ t → q u ≡ p u) → (is_in t r.ready ≡ true → q t ≡ (r.threads t).base) → AreCurrent q r
-unfolding AreCurrent
-current_but s r p q t current listed bases prios mine u h =
-    elim (cases_eq u t) [
-      | inl same ↦ subst (λ v. q v ≡ (r.threads v).base) (sym same) (mine (subst (λ v. is_in v r.ready ≡ true) same h))
-      | inr other ↦ prios u other ∙ current u (listed u other h) ∙ sym (bases u other)
-    ]
-
--- the base of every thread but one stays
-others : (m : ℕ → Thread) (t : ℕ) (thread : Thread) (u : ℕ) → u ≢ t → (put m t thread u).base ≡ (m u).base
-others m t thread u ne = ap (λ (x : Thread). x.base) (put_other m t thread u ne)
-
-mine_is : (m : ℕ → Thread) (t : ℕ) (thread : Thread) → (put m t thread t).base ≡ thread.base
-mine_is m t thread = ap (λ (x : Thread). x.base) (put_same m t thread)
-
--- a thread that was listed keeps its base
-pub kept_current : (s : State) (t : ℕ) (thread : Thread) (ready : List ℕ) (p : ℕ → ℕ) → AreCurrent p s → thread.base ≡ (s.threads t).base
-    → ((u : ℕ) → is_in u ready ≡ true → is_in u s.ready ≡ true) → AreCurrent p (record s { threads = put s.threads t thread; ready = ready })
-unfolding AreCurrent
-kept_current s t thread ready p current base listed =
-    current_but s (record s { threads = put s.threads t thread; ready = ready }) p p t current
-    (λ u ne h. listed u h) (λ u ne. others s.threads t thread u ne) (λ u ne. refl)
-    (λ h. current t (listed t h) ∙ sym base ∙ sym (mine_is s.threads t thread))
-
--- a thread comes with its base
-pub come_current : (s : State) (t : ℕ) (thread : Thread) (p : ℕ → ℕ) → AreCurrent p s → AreCurrent (put p t thread.base) (record s { threads = put s.threads t thread; ready = s.ready ++ t ∷ [] })
-come_current s t thread p current =
-    current_but s (record s { threads = put s.threads t thread; ready = s.ready ++ t ∷ [] }) p (put p t thread.base) t current
-    (λ u ne h. sym (is_in-push t u s.ready ne) ∙ h) (λ u ne. others s.threads t thread u ne) (λ u ne. put_other p t thread.base u ne)
-    (λ h. put_same p t thread.base ∙ sym (mine_is s.threads t thread))
-
-in_list : (t u : ℕ) (ts : List ℕ) → is_in u (without t ts) ≡ true → (u ≢ t) × (is_in u ts ≡ true)
-in_list t u ts h =
-    elim (cases_eq u t) [
-      | inl same ↦ absurd (let e : false ≡ true = sym (not_in-without t ts) ∙ subst (λ v. is_in v (without t ts) ≡ true) same h in cc)
-      | inr other ↦ (other, sym (is_in-without t u ts other) ∙ h)
-    ]
-
--- a thread that is not listed afterwards has any base
-gone_current : (s : State) (t : ℕ) (thread : Thread) (ready : List ℕ) (p : ℕ → ℕ) → AreCurrent p s → is_in t ready ≡ false
-    → ((u : ℕ) → is_in u ready ≡ true → is_in u s.ready ≡ true) → AreCurrent p (record s { threads = put s.threads t thread; ready = ready })
-gone_current s t thread ready p current away listed =
-    current_but s (record s { threads = put s.threads t thread; ready = ready }) p p t current
-    (λ u ne h. listed u h) (λ u ne. others s.threads t thread u ne) (λ u ne. refl)
-    (λ h. absurd (let e : false ≡ true = sym away ∙ h in cc))
-
--- what is not of the threads or of the ready list does not count
-alike : (s r : State) (p : ℕ → ℕ) → r.threads ≡ s.threads → r.ready ≡ s.ready → AreCurrent p s → AreCurrent p r
-unfolding AreCurrent
-alike s r p threads ready current u h =
-    current u (ap (is_in u) (sym ready) ∙ h) ∙ ap (λ (m : ℕ → Thread). (m u).base) (sym threads)
-
-over_current : (s : State) (p : ℕ → ℕ) → AreCurrent p s → AreCurrent p (over_with_last s)
-over_current s p current = by (some_live s)
-  where
-    by : (b : Bool) → AreCurrent p (if b then s else record s { over = Some (Exit 0) })
-    by true = current
-    by false = alike s (record s { over = Some (Exit 0) }) p refl refl current
-
-pub current_by : (change : Change) (g : Made) (p : ℕ → ℕ) → Can change g → AreCurrent p g.state → AreCurrent (prios_by change g.state p) (change_by change g).state
-current_by (Reply t error value) g p can current = kept_current g.state t _ g.state.ready p current refl (λ u h. h)
-current_by (ToEnd t) g p can current =
-    kept_current g.state t _ (without t g.state.ready ++ t ∷ []) p current refl (λ u h. sym (is_in-to_end t u g.state.ready can.1) ∙ h)
-current_by (Create t beginning) g p can current = come_current g.state t _ p current
-current_by (StartExit t value) g p can current = kept_current g.state t _ g.state.ready p current refl (λ u h. h)
-current_by (Await t wait) g p can current =
-    kept_current g.state t _ (without t g.state.ready) p current refl (λ u h. (in_list t u g.state.ready h).1)
-current_by (Answer t error value) g p can current = come_current g.state t _ p current
-current_by (Detach t) g p can current = kept_current g.state t _ g.state.ready p current refl (λ u h. h)
-current_by (Free t) g p can current = gone_current g.state t _ g.state.ready p current can.1 (λ u h. h)
-current_by (End t value joined) g p can current =
-    over_current _ p (alike (record g.state { threads = put g.state.threads t _; ready = without t g.state.ready }) _ p refl refl
-    (gone_current g.state t _ (without t g.state.ready) p current (not_in-without t g.state.ready) (λ u h. (in_list t u g.state.ready h).1)))
-current_by (Output descriptor buffer length) g p can current = current
-current_by (Over ending) g p can current = alike g.state _ p refl refl current
-current_by (Pend t signal) g p can current = alike g.state _ p refl refl current
-current_by (Deliver t signal) g p can current = alike g.state _ p refl refl current
-current_by (MakeMutex m kind protocol) g p can current = alike g.state _ p refl refl current
-current_by (DestroyMutex m) g p can current = alike g.state _ p refl refl current
-current_by (Hold m holder) g p can current = alike g.state _ p refl refl current
-current_by (AddMutexWaiter m t) g p can current = alike g.state _ p refl refl current
-current_by (DropMutexWaiter m t) g p can current = alike g.state _ p refl refl current
-current_by (MakeCondition c) g p can current = alike g.state _ p refl refl current
-current_by (DestroyCondition c) g p can current = alike g.state _ p refl refl current
-current_by (EnterCondition c t m) g p can current = alike g.state _ p refl refl current
-current_by (LeaveCondition c t) g p can current = alike g.state _ p refl refl current
-current_by (AwaitNext t wait) g p can current = kept_current g.state t _ g.state.ready p current refl (λ u h. h)
-current_by (GoOn t (AnswerBack error)) g p can current = come_current g.state t _ p current
-current_by (GoOn t Cancel) g p can current = come_current g.state t _ p current
+use Rattle.kernel_state.specs.View.{AreCurrent, with_ready}
 
 -- without edges a thread has its own priority
 no_way : (s : State) (u t : ℕ) → Leads (edge s) u t → u ≡ t
@@ -132,11 +35,93 @@ eff_own s t low high =
     } in
     effective_alone (own s) (edge s) t (eff s t) (own s t) inherited alone
 
+-- who lends a thread its priority is the thread itself
+lends : (s : State) (u t : ℕ) → u ≢ t → (if leads (edge s) 64 (Some u) t then own s u else 0) ≡ 0
+unfolding leads
+lends s u t ne = rw (ne_eqb u t ne) refl
+
+pub eff_same : (s r : State) (t : ℕ) → own r t ≡ own s t → eff r t ≡ eff s t
+unfolding eff effective
+eff_same s r t e = λ i. greatest (λ u. same u i) tids
+  where
+    same : (u : ℕ) → (if leads (edge r) 64 (Some u) t then own r u else 0) ≡ (if leads (edge s) 64 (Some u) t then own s u else 0)
+    same u =
+        elim (cases_eq u t) [
+          | inl is ↦ ap (λ n. if leads (edge s) 64 (Some u) t then n else 0) (ap (own r) is ∙ e ∙ ap (own s) (sym is))
+          | inr ne ↦ lends r u t ne ∙ sym (lends s u t ne)
+        ]
+
+-- each thread of the ready list was there, and has its priority and the kept one as before
+pub still_current : (s r : State) (p q : ℕ → ℕ) → ((u : ℕ) → is_in u r.ready ≡ true → (is_in u s.ready ≡ true) × (q u ≡ p u) × (own r u ≡ own s u))
+    → AreCurrent p s → AreCurrent q r
+unfolding AreCurrent
+still_current s r p q each current u h = let was = each u h in was.1 ∙ current u was.0 ∙ sym (eff_same s r u was.2)
+
+-- a thread's record changes and its base priority stays
+pub kept_current : (s : State) (t : ℕ) (thread : Thread) (p : ℕ → ℕ) → thread.base ≡ own s t → AreCurrent p s → AreCurrent p (set_thread s t thread)
+kept_current s t thread p base =
+    still_current s (set_thread s t thread) p p (λ u h. (h, refl, kept (λ (x : Thread). x.base) s.threads t u thread base))
+
+-- the record of a thread that is not ready changes
+pub away_current : (s : State) (t : ℕ) (thread : Thread) (p : ℕ → ℕ) → is_in t s.ready ≡ false → AreCurrent p s → AreCurrent p (set_thread s t thread)
+away_current s t thread p away =
+    still_current s (set_thread s t thread) p p
+    (λ u h. (
+      h,
+      refl,
+      at_other (λ (x : Thread). x.base) s.threads t u thread
+          (λ same. absurd (let e : false ≡ true = sym away ∙ subst (λ v. is_in v s.ready ≡ true) same h in cc)),
+    ))
+
+-- the own priority of a thread that was put
+pub base_put : (s r : State) (t : ℕ) (thread : Thread) → r ≡ set_thread s t thread → own r t ≡ thread.base
+base_put s r t thread e = ap (λ (x : State). own x t) e ∙ at_same (λ (x : Thread). x.base) s.threads t t thread refl
+
+-- a thread leaves the ready list, or goes to its end
+in_list : (t u : ℕ) (ts : List ℕ) → is_in u (without t ts) ≡ true → is_in u ts ≡ true
+in_list t u ts h =
+    elim (cases_eq u t) [
+      | inl same ↦ absurd (let e : false ≡ true = sym (not_in-without t ts) ∙ subst (λ v. is_in v (without t ts) ≡ true) same h in cc)
+      | inr other ↦ sym (is_in-without t u ts other) ∙ h
+    ]
+
+pub out_current : (s : State) (t : ℕ) (p q : ℕ → ℕ) → q ≡ p → AreCurrent p s → AreCurrent q (with_ready s (without t s.ready))
+out_current s t p q e =
+    still_current s (with_ready s (without t s.ready)) p q (λ u h. (in_list t u s.ready h, ap (λ (f : ℕ → ℕ). f u) e, refl))
+
+pub last_current : (s : State) (t : ℕ) (p q : ℕ → ℕ) → is_in t s.ready ≡ true → q ≡ p → AreCurrent p s → AreCurrent q (with_ready s (without t s.ready ++ t ∷ []))
+last_current s t p q there e =
+    still_current s (with_ready s (without t s.ready ++ t ∷ [])) p q (λ u h. (sym (is_in-to_end t u s.ready there) ∙ h, ap (λ (f : ℕ → ℕ). f u) e, refl))
+
+-- a thread comes with its base priority
+pub come_current : (s : State) (t base : ℕ) (p q : ℕ → ℕ) → 1 ≤ t → t ≤ 64 → base ≡ own s t → q ≡ put p t base → AreCurrent p s → AreCurrent q (with_ready s (s.ready ++ t ∷ []))
+unfolding AreCurrent
+come_current s t base p q low high is e current u h =
+    elim (cases_eq u t) [
+      | inl same ↦
+          ap (λ (f : ℕ → ℕ). f u) e ∙ ap (put p t base) same ∙ put_same p t base ∙ is ∙ sym (eff_own s t low high) ∙ ap (eff s) (sym same)
+          ∙ sym (eff_same s (with_ready s (s.ready ++ t ∷ [])) u refl)
+      | inr other ↦
+          ap (λ (f : ℕ → ℕ). f u) e ∙ put_other p t base u other ∙ current u (sym (is_in-push t u s.ready other) ∙ h)
+          ∙ sym (eff_same s (with_ready s (s.ready ++ t ∷ [])) u refl)
+    ]
+
+-- what is not of the threads or of the ready list does not count
+pub alike : (s r : State) (p q : ℕ → ℕ) → r.threads ≡ s.threads → r.ready ≡ s.ready → q ≡ p → AreCurrent p s → AreCurrent q r
+alike s r p q threads ready e =
+    still_current s r p q (λ u h. (ap (is_in u) (sym ready) ∙ h, ap (λ (f : ℕ → ℕ). f u) e, ap (λ (m : ℕ → Thread). (m u).base) threads))
+
+pub over_current : (s : State) (p : ℕ → ℕ) → AreCurrent p s → AreCurrent p (over_with_last s)
+over_current s p current = by (some_live s)
+  where
+    by : (b : Bool) → AreCurrent p (if b then s else record s { over = Some (Exit 0) })
+    by true = current
+    by false = alike s (record s { over = Some (Exit 0) }) p p refl refl refl current
+
 -- the first of the greatest kept priority is the chosen thread
-pub chosen_is : (s : State) (p : ℕ → ℕ) → IsOrder s.ready → AreCurrent p s → first_greatest p s.ready ≡ chosen s
+pub chosen_is : (s : State) (p : ℕ → ℕ) → AreCurrent p s → first_greatest p s.ready ≡ chosen s
 unfolding AreCurrent chosen
-chosen_is s p order current =
-    first_agree p (eff s) s.ready (λ u h. (let range = within s.ready u order h in current u h ∙ sym (eff_own s u range.0 range.1)))
+chosen_is s p current = first_agree p (eff s) s.ready current
 
 pub moved_current : (p q : ℕ → ℕ) (s r : State) → q ≡ p → r ≡ s → AreCurrent p s → AreCurrent q r
 moved_current p q s r e f current = subst (λ x. AreCurrent q x) (sym f) (subst (λ x. AreCurrent x s) (sym e) current)

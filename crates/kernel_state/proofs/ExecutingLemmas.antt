@@ -16,10 +16,11 @@ use Rattle.rv_exec.specs.declared.Regs.{Regs}
 use Rattle.posix_model.specs.State.{State, Registers, is_absent}
 use Rattle.posix_model.specs.Changes.{set_registers}
 use Rattle.posix_model.specs.Threads.{exists}
-use Rattle.kernel_state.specs.View.{view, context_of, contexts_of, registers_of, lives_of, mutexes_of, conditions_of, pending_of, thread_of, threads_of}
+use Rattle.kernel_state.specs.View.{view, AreCurrent, context_of, contexts_of, registers_of, activities_of, pending_of, thread_of, threads_of}
 use Rattle.kernel_state.specs.Executing.{effect_at, HasExecuted}
-use Rattle.kernel_state.specs.declared.life.Life.{Life}
+use Rattle.kernel_state.specs.declared.activity.Activity.{Activity}
 use Rattle.kernel_state.specs.declared.tables.Tables.{Tables}
+use Rattle.kernel_state.proofs.CurrentLemmas.{still_current}
 use Rattle.kernel_state.proofs.ViewLemmas.{saved_contexts, threads_put}
 
 -- another context is put in place, and the one that was there is saved
@@ -33,20 +34,32 @@ moved_contexts saved after placed t old r s e same is =
     ∙ put_got (put map placed old) t
 
 -- the registers of one thread change
-row_registers : (o : Option Row) (rows : ℕ → Option Row) (lives : ℕ → Life) (contexts : ℕ → Registers) (t : ℕ) (r : Registers) → rows t ≡ o
-    → not (is_absent (thread_of o (lives t) (contexts t)).standing) ≡ true
-    → threads_of rows lives (put contexts t r) ≡ put (threads_of rows lives contexts) t (record (threads_of rows lives contexts t) { registers = r })
-row_registers None rows lives contexts t r e h = absurd (let f : false ≡ true = h in cc)
-row_registers (Some row) rows lives contexts t r e h =
+row_registers : (o : Option Row) (rows : ℕ → Option Row) (activities : ℕ → Activity) (contexts : ℕ → Registers) (t : ℕ) (r : Registers) → rows t ≡ o
+    → not (is_absent (thread_of o (activities t) (contexts t)).standing) ≡ true
+    → threads_of rows activities (put contexts t r) ≡ put (threads_of rows activities contexts) t (record (threads_of rows activities contexts t) { registers = r })
+row_registers None rows activities contexts t r e h = absurd (let f : false ≡ true = h in cc)
+row_registers (Some row) rows activities contexts t r e h =
     let same_rows : put rows t (Some row) ≡ rows = ap (put rows t) (sym e) ∙ put_got rows t in
-    let same_lives : put lives t (lives t) ≡ lives = put_got lives t in
+    let same_lives : put activities t (activities t) ≡ activities = put_got activities t in
     (λ i. threads_of (sym same_rows i) (sym same_lives i) (put contexts t r))
-    ∙ threads_put rows lives contexts t row (lives t) r
-    ∙ ap (λ (o : Option Row). put (threads_of rows lives contexts) t (record (thread_of o (lives t) (contexts t)) { registers = r })) (sym e)
+    ∙ threads_put rows activities contexts t row (activities t) r
+    ∙ ap (λ (o : Option Row). put (threads_of rows activities contexts) t (record (thread_of o (activities t) (contexts t)) { registers = r })) (sym e)
 
-there_registers : (o : Option Row) (life : Life) (r : Registers) → not (is_absent (thread_of o life r).standing) ≡ true → (thread_of o life r).registers ≡ r
-there_registers None life r h = absurd (let f : false ≡ true = h in cc)
-there_registers (Some row) life r h = refl
+there_registers : (o : Option Row) (activity : Activity) (r : Registers) → not (is_absent (thread_of o activity r).standing) ≡ true → (thread_of o activity r).registers ≡ r
+there_registers None activity r h = absurd (let f : false ≡ true = h in cc)
+there_registers (Some row) activity r h = refl
+
+-- a context changes no priority
+base_same : (o : Option Row) (activity : Activity) (r q : Registers) → (thread_of o activity r).base ≡ (thread_of o activity q).base
+base_same None activity r q = refl
+base_same (Some row) activity r q = refl
+
+pub executed_current : {R : Type 0} (order : R → List ℕ) (k : Tables R) (regs : Regs) (memory : List ℕ) (p : ℕ → ℕ) → AreCurrent p (view order k)
+    → AreCurrent p (view order (record k { regs = regs; memory = memory }))
+unfolding view
+executed_current order k regs memory p =
+    still_current (view order k) (view order (record k { regs = regs; memory = memory })) p p
+    (λ u h. (h, refl, base_same (rows k.threads u) (activities_of k.activities u) _ _))
 
 module _ {R : Type 0} (order : R → List ℕ) (k : Tables R) (regs : Regs) (memory : List ℕ) (there : exists (view order k) k.placed ≡ true) where
   map : ℕ → Registers
@@ -56,7 +69,7 @@ module _ {R : Type 0} (order : R → List ℕ) (k : Tables R) (regs : Regs) (mem
   seen : effect_at (view order k) k.placed ≡ effect k.regs.pc k.regs.x k.memory
   unfolding view
   seen =
-      let mine = there_registers (rows k.threads k.placed) (lives_of k.lives k.placed) (contexts_of k k.placed) there
+      let mine = there_registers (rows k.threads k.placed) (activities_of k.activities k.placed) (contexts_of k k.placed) there
       ∙ put_same (λ u. context_of (saved_of k.frames u)) k.placed (registers_of k.regs) in
       λ i. effect (mine i).pc (mine i).x k.memory
 
@@ -67,17 +80,17 @@ module _ {R : Type 0} (order : R → List ℕ) (k : Tables R) (regs : Regs) (mem
   unfolding view after
   went =
       let contexts = sym (put-put (λ u. context_of (saved_of k.frames u)) k.placed (registers_of k.regs) (registers_of regs)) in
-      let threads = ap (threads_of (rows k.threads) (lives_of k.lives)) contexts
-      ∙ row_registers (rows k.threads k.placed) (rows k.threads) (lives_of k.lives) (contexts_of k) k.placed (registers_of regs) refl there in
-      λ i. record { threads = threads i; ready = order k.ready; mutexes = mutexes_of (mutex_map k.mutexes); conditions = conditions_of (condition_map k.conditions); pending = pending_of k.fault; memory = memory; over = k.over }
+      let threads = ap (threads_of (rows k.threads) (activities_of k.activities)) contexts
+      ∙ row_registers (rows k.threads k.placed) (rows k.threads) (activities_of k.activities) (contexts_of k) k.placed (registers_of regs) refl there in
+      λ i. record { threads = threads i; ready = order k.ready; mutexes = mutex_map k.mutexes; conditions = condition_map k.conditions; pending = pending_of k.fault; memory = memory; over = k.over }
 
   still : registers_of regs ≡ registers_of k.regs → memory ≡ k.memory → after ≡ view order k
   unfolding view after
   still e f = λ i. record {
-    threads = threads_of (rows k.threads) (lives_of k.lives) (put (λ u. context_of (saved_of k.frames u)) k.placed (e i));
+    threads = threads_of (rows k.threads) (activities_of k.activities) (put (λ u. context_of (saved_of k.frames u)) k.placed (e i));
     ready = order k.ready;
-    mutexes = mutexes_of (mutex_map k.mutexes);
-    conditions = conditions_of (condition_map k.conditions);
+    mutexes = mutex_map k.mutexes;
+    conditions = condition_map k.conditions;
     pending = pending_of k.fault;
     memory = f i;
     over = k.over;

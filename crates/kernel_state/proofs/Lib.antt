@@ -6,3 +6,4 @@ pub mod StartLemmas
 pub mod NoteLemmas
 pub mod ExecutingLemmas
 pub mod PendingLemmas
+pub mod WakingLemmas

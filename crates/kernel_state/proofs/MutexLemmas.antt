@@ -1,69 +1,23 @@
--- The mutexes that the tables show, after a change of one of them and where a thread has none.
-use Rattle.std.proofs.Common.{◌≡◌, ◌∙◌, ap, sym, refl, inl, inr, arith, ℕ, ◌+◌, ◌<◌, ◌≤◌, length, set, false, List, [], ◌∷◌, ◌++◌, Option, Some, None, IsSome, IsNone}
+-- Mutexes of a thread that ends, and the priorities of threads by their numbers.
+use Rattle.std.proofs.Common.{◌≡◌, ◌∙◌, ap, sym, refl, inl, inr, arith, ℕ, ◌+◌, ◌<◌, ◌≤◌, length, set, true, false, is_some, List, Option, Some, None}
 use Rattle.std.specs.Prelude.{if◌then◌else◌}
-use Rattle.thread_base.specs.Holders.{is_held_by}
+use Rattle.thread_base.specs.Holders.{is_held_by, is_free}
 use Rattle.std.proofs.lemmas.Bool.{cases_lt}
 use Rattle.thread_base.specs.Maps.{put, numbered}
-use Rattle.thread_base.specs.Orders.{without}
-use Rattle.thread_base.specs.declared.mutex.Holder.{Holder}
+use Rattle.thread_base.specs.Objects.{holder_in, waiters_in}
 use Rattle.thread_base.specs.declared.mutex.Holder.TheVariants.{Orphan}
-use Rattle.thread_base.proofs.MapLemmas.{put_is, put_same, put_other, numbered_set}
-use Rattle.mutex_table.specs.MutexMap.{Mutex as KeptMutex, Table, mutexes as mutex_map, look_of, waiters_of as kept_waiters, with_holder, with_waiters, is_owned_by}
+use Rattle.thread_base.proofs.MapLemmas.{put_same, put_other, numbered_set}
+use Rattle.mutex_table.specs.MutexMap.{look_of}
 use Rattle.posix_model.specs.State.{State, Mutex}
-use Rattle.posix_model.specs.Mutexes.{holder_in, waiters_in, set_mutex, orphan_in, orphaned}
-use Rattle.kernel_state.specs.View.{view, mutex_of, mutex_by, mutexes_of}
-use Rattle.kernel_state.specs.Changing.{held_anew, with_mutex_waiter, without_mutex_waiter, HasNoMutex}
-use Rattle.kernel_state.specs.declared.tables.Tables.{Tables}
+use Rattle.posix_model.specs.Changes.{Outcome}
+use Rattle.posix_model.specs.Mutexes.{orphan_in, orphaned, give, requeue, retake_of, retake}
+use Rattle.posix_model.specs.declared.RetakeReply.{RetakeReply}
+use Rattle.kernel_state.specs.View.{mutex_by}
+use Rattle.kernel_state.specs.Changing.{HasNoMutex}
 
-pub map_put : {A B : Type 0} (f : A → B) (m : ℕ → A) (t : ℕ) (x : A) → (λ u. f (put m t x u)) ≡ put (λ u. f (m u)) t (f x)
-map_put f m t x =
-    put_is (λ u. f (m u)) (λ u. f (put m t x u)) t (f x)
-    (ap f (put_same m t x))
-    (λ u ne. ap f (put_other m t x u ne))
-
--- of no table, no mutex is shown
-pub none_shown : (map : ℕ → Option KeptMutex) → map ≡ (λ m. None) → mutexes_of map ≡ (λ m. None)
-none_shown map e = ap mutexes_of e
-
-pub none_kept : (o : Option KeptMutex) → IsNone (mutex_of o) → IsNone o
-none_kept None h = refl
-none_kept (Some mutex) h = h
-
-pub some_kept : (o : Option KeptMutex) → IsSome (mutex_of o) → IsSome o
-some_kept None h = h
-some_kept (Some mutex) h = refl
-
-pub same_waiters : (o : Option KeptMutex) → kept_waiters o ≡ waiters_in (mutex_of o)
-same_waiters None = refl
-same_waiters (Some mutex) = refl
-
-pub same_owner : (o : Option KeptMutex) (t : ℕ) → is_owned_by t o ≡ is_held_by (holder_in (mutex_of o)) t
-same_owner None t = refl
-same_owner (Some mutex) t = refl
-
-pub seen_by : (o : Option KeptMutex) → mutex_of o ≡ mutex_by (look_of o) (waiters_in (mutex_of o))
+pub seen_by : (o : Option Mutex) → o ≡ mutex_by (look_of o) (waiters_in o)
 seen_by None = refl
 seen_by (Some mutex) = refl
-
-pub held_shown : (holder : Holder) (o : Option KeptMutex) → mutex_of (with_holder holder o) ≡ held_anew holder (mutex_of o)
-held_shown holder None = refl
-held_shown holder (Some mutex) = refl
-
-pub added_shown : (t : ℕ) (o : Option KeptMutex) → mutex_of (with_waiters (λ ts. ts ++ t ∷ []) o) ≡ with_mutex_waiter t (mutex_of o)
-added_shown t None = refl
-added_shown t (Some mutex) = refl
-
-pub dropped_shown : (t : ℕ) (o : Option KeptMutex) → mutex_of (with_waiters (without t) o) ≡ without_mutex_waiter t (mutex_of o)
-dropped_shown t None = refl
-dropped_shown t (Some mutex) = refl
-
--- one mutex has changed
-pub view_mutex : {R : Type 0} (order : R → List ℕ) (k : Tables R) (table : Table) (m : ℕ) (o : Option KeptMutex) → mutex_map table ≡ put (mutex_map k.mutexes) m o
-    → view order (record k { mutexes = table }) ≡ set_mutex (view order k) m (mutex_of o)
-unfolding view
-view_mutex order k table m o e =
-    let is : mutexes_of (mutex_map table) ≡ put (mutexes_of (mutex_map k.mutexes)) m (mutex_of o) = ap mutexes_of e ∙ map_put mutex_of (mutex_map k.mutexes) m o in
-    λ i. record { threads = (view order k).threads; ready = (view order k).ready; mutexes = is i; conditions = (view order k).conditions; pending = (view order k).pending; memory = k.memory; over = k.over }
 
 unheld : (t : ℕ) (o : Option Mutex) → is_held_by (holder_in o) t ≡ false → o ≡ orphan_in t o
 unheld t None h = refl
@@ -82,3 +36,18 @@ level_more levels base i x inside is known t low high =
       | inl lt ↦ put_other (numbered 0 levels) (i + 1) x t (λ e. omega (arith, lt, e)) ∙ known t low (omega (arith, lt))
       | inr ge ↦ (let same : t ≡ i + 1 = omega (arith, ge, high) in ap (put (numbered 0 levels) (i + 1) x) same ∙ put_same (numbered 0 levels) (i + 1) x ∙ is ∙ ap base (sym same))
     ]
+
+-- there is a mutex
+pub a_mutex : (o : Option Mutex) → is_some o ≡ true → (mutex : Mutex) × (o ≡ Some mutex)
+a_mutex None h = absurd (let e : false ≡ true = h in cc)
+a_mutex (Some mutex) h = (mutex, refl)
+
+-- a mutex that is there is taken back at once where it is free, and is waited for where it is not
+pub retake_is : (g : Outcome) (m t count : ℕ) (reply : RetakeReply) (mutex : Mutex) → g.state.mutexes m ≡ Some mutex
+    → (is_free mutex.holder ≡ true → retake g m t count reply ≡ give g m mutex t count reply) × (is_free mutex.holder ≡ false → retake g m t count reply ≡ requeue g m mutex t count reply)
+retake_is g m t count reply mutex is =
+    let by_holder : retake g m t count reply ≡ (if is_free mutex.holder then give g m mutex t count reply else requeue g m mutex t count reply) =
+    ap (λ o. retake_of g m o t count reply) is in (
+      λ h. by_holder ∙ ap (λ b. if b then give g m mutex t count reply else requeue g m mutex t count reply) h,
+      λ h. by_holder ∙ ap (λ b. if b then give g m mutex t count reply else requeue g m mutex t count reply) h,
+    )

@@ -1,90 +1,145 @@
--- Small changes that were noted on an idle kernel.
-use Rattle.std.proofs.Common.{◌≡◌, ◌∙◌, ap, sym, refl, subst, ℕ, true, false, Some, List, [], ◌∷◌, ◌++◌}
-use Rattle.posix_model.specs.Changes.{Made, begun}
+-- Small changes that were noted on an idle kernel, and those that are left.
+use Rattle.std.proofs.Common.{◌≡◌, ◌∙◌, ap, sym, refl, subst, inl, inr, ℕ, zero, suc, ◌+◌, ◌<◌, ◌≤◌, true, false, Some, List, [], ◌∷◌, ◌++◌, drop, get_or, length, length-append, arith, leb}
+use Rattle.std.proofs.Math.Seq.{drop-cons}
+use Rattle.std.proofs.lemmas.Bool.{cases_lt, le-leb, lt-leb}
+use Rattle.std.proofs.lemmas.List.{drop_all}
+use Rattle.thread_base.specs.Orders.{is_nil}
+use Rattle.posix_model.specs.Changes.{Outcome, begun}
 use Rattle.posix_model.specs.State.{State}
 use Rattle.posix_model.specs.Deliveries.{next_delivery, delivered, deliver, set_pending}
 use Rattle.posix_model.specs.Reports.{nothing_told}
 use Rattle.posix_model.specs.declared.Head.TheVariants.{Deliver as DeliverHead}
 use Rattle.posix_model.specs.declared.Ending.TheVariants.{Killed}
-use Rattle.kernel_state.specs.View.{view, made, one_pending}
+use Rattle.kernel_state.specs.View.{view, outcome, one_pending}
 use Rattle.kernel_state.specs.Changing.{Can, change_by, owed, AllCan}
 use Rattle.kernel_state.specs.declared.change.Change.{Change}
-use Rattle.kernel_state.specs.declared.change.Change.TheVariants.{Deliver}
+use Rattle.kernel_state.specs.declared.change.Change.TheVariants.{Signal as OfSignal, Over}
+use Rattle.kernel_state.specs.declared.change.SignalChange.TheVariants.{Take}
 use Rattle.kernel_state.specs.declared.kernel.Kernel.{Kernel}
-use Rattle.kernel_state.specs.Begun.{CanBegin, IsNoted, NotesMore, IsBegun}
-use Rattle.kernel_state.specs.Moves.{is_nil, owed_by, told_by}
+use Rattle.kernel_state.specs.declared.rest.Rest.{Rest}
+use Rattle.kernel_state.specs.Begun.{CanBegin, HasNoted, HasNotedSome, NotesMore, IsBegun}
+use Rattle.kernel_state.specs.Moves.{left, IsIdle, owed_by, told_by}
 use Rattle.kernel_state.proofs.PendingLemmas.{pends_once}
 
-module _ {R : Type 0} (order : R → List ℕ) (k : Kernel R) (t : ℕ) (ready : CanBegin order k t) where
-  pub fresh : made order k.tables ≡ begun (view order k.tables)
-  unfolding made
-  fresh = λ i. record { state = view order k.tables; report = ready.untold i }
+-- nothing is left of no move
+pub idle_left : (rest : Rest) → IsIdle rest → left rest ≡ []
+idle_left rest idle = λ i. drop (idle.first i) (idle.none i)
 
-  -- a list of changes was noted
-  pub noted : (q : Kernel R) (changes : List Change) → is_nil changes ≡ false → q.rest.items ≡ changes → q ≡ record k { rest = q.rest } → AllCan (begun (view order k.tables)) changes
-      → IsNoted order k q (owed (begun (view order k.tables)) changes)
-  noted q changes some e others can = record {
-    begun = ap is_nil e ∙ some;
-    owed = ap (owed (made order k.tables)) e ∙ ap (λ (g : Made). owed g changes) fresh;
-    can = subst (λ xs. AllCan (made order k.tables) xs) (sym e) (subst (λ (g : Made). AllCan g changes) (sym fresh) can);
-    others = others;
-  }
-
--- one more change is owed behind the others, and may be made in its turn
-more_owed : (changes : List Change) (change : Change) (g : Made) → owed g (changes ++ change ∷ []) ≡ change_by change (owed g changes)
-more_owed [] change g = refl
-more_owed (first ∷ changes) change g = more_owed changes change (change_by first g)
-
-more_can : (changes : List Change) (change : Change) (g : Made) → AllCan g changes → Can change (owed g changes) → AllCan g (changes ++ change ∷ [])
-more_can [] change g all can = (can, tt)
-more_can (first ∷ changes) change g all can = (all.0, more_can changes change (change_by first g) all.1 can)
-
+-- some more stand after those that are left
 some_more : (changes : List Change) (change : Change) → is_nil (changes ++ change ∷ []) ≡ false
 some_more [] change = refl
 some_more (first ∷ changes) change = refl
 
-pub notes_more : {R : Type 0} (order : R → List ℕ) (k q : Kernel R) (change : Change) → q.rest.items ≡ k.rest.items ++ change ∷ [] → q ≡ record k { rest = q.rest }
-    → NotesMore order k q change
-notes_more order k q change e others first g noted can =
-    let start = made order first.tables in
-    record {
-      begun = ap is_nil e ∙ some_more k.rest.items change;
-      owed = ap (owed start) e ∙ more_owed k.rest.items change start ∙ ap (change_by change) noted.owed;
-      can = subst (λ xs. AllCan start xs) (sym e) (more_can k.rest.items change start noted.can (subst (λ (x : Made). Can change x) (sym noted.owed) can));
-      others = others ∙ ap (λ (x : Kernel _). record x { rest = q.rest }) noted.others;
-    }
+-- one more change is owed after the others, and may be made in its turn
+more_owed : (changes : List Change) (change : Change) (g : Outcome) → owed g (changes ++ change ∷ []) ≡ change_by change (owed g changes)
+more_owed [] change g = refl
+more_owed (first ∷ changes) change g = more_owed changes change (change_by first g)
+
+more_can : (changes : List Change) (change : Change) (g : Outcome) → AllCan g changes → Can change (owed g changes) → AllCan g (changes ++ change ∷ [])
+more_can [] change g all can = (can, tt)
+more_can (first ∷ changes) change g all can = (all.0, more_can changes change (change_by first g) all.1 can)
+
+module _ {R : Type 0} (order : R → List ℕ) where
+  -- nothing was noted yet
+  pub noted_none : (k : Kernel R) → IsIdle k.rest → k.tables.report ≡ nothing_told → HasNoted order k k (begun (view order k.tables))
+  unfolding outcome
+  noted_none k idle untold = record {
+    owed = ap (owed (outcome order k.tables)) (idle_left k.rest idle) ∙ (λ i. record { state = view order k.tables; report = untold i });
+    can = subst (λ xs. AllCan (outcome order k.tables) xs) (sym (idle_left k.rest idle)) tt;
+    first = idle.first;
+    few = (let e = ap (length {A = Change}) idle.none in omega (arith, e));
+    others = refl;
+  }
+
+  pub tables_stay : (first k : Kernel R) (g : Outcome) → HasNoted order first k g → k.tables ≡ first.tables
+  tables_stay first k g noted = ap (λ (x : Kernel R). x.tables) noted.others
+
+  pub notes_more : (k q : Kernel R) (change : Change) → length k.rest.noted.items < 512 → q.rest.noted.items ≡ k.rest.noted.items ++ change ∷ [] → q.rest.next ≡ k.rest.next
+      → q ≡ record k { rest = q.rest } → NotesMore order k q change
+  notes_more k q change room more next others first g noted can =
+      let start = outcome order first.tables in
+      let was : left k.rest ≡ k.rest.noted.items = ap (λ n. drop n k.rest.noted.items) noted.first in
+      let all : left q.rest ≡ left k.rest ++ change ∷ [] =
+      ap (λ n. drop n q.rest.noted.items) (next ∙ noted.first) ∙ more ∙ ap (λ xs. xs ++ change ∷ []) (sym was) in
+      record {
+        begun = ap is_nil all ∙ some_more (left k.rest) change;
+        so_far = record {
+          owed = ap (owed start) all ∙ more_owed (left k.rest) change start ∙ ap (change_by change) noted.owed;
+          can = subst (λ xs. AllCan start xs) (sym all) (more_can (left k.rest) change start noted.can (subst (λ (x : Outcome). Can change x) (sym noted.owed) can));
+          first = next ∙ noted.first;
+          few = (let e = ap (length {A = Change}) more ∙ length-append k.rest.noted.items (change ∷ []) in omega (arith, e, room));
+          others = others ∙ ap (λ (x : Kernel _). record x { rest = q.rest }) noted.others;
+        };
+      }
+
+  -- two and three more
+  module _ (first k : Kernel R) (g : Outcome) (noted : HasNoted order first k g) (q : Kernel R) (a : Change) (more : NotesMore order k q a) (can : Can a g) where
+    pub noted_one : HasNotedSome order first q (change_by a g)
+    noted_one = more first g noted can
+
+    module _ (r : Kernel R) (b : Change) (more2 : NotesMore order q r b) (can2 : Can b (change_by a g)) where
+      pub noted_two : HasNotedSome order first r (change_by b (change_by a g))
+      noted_two = more2 first (change_by a g) noted_one.so_far can2
+
+      pub noted_three : (p : Kernel R) (c : Change) → NotesMore order r p c → Can c (change_by b (change_by a g))
+          → HasNotedSome order first p (change_by c (change_by b (change_by a g)))
+      noted_three p c more3 can3 = more3 first (change_by b (change_by a g)) noted_two.so_far can3
 
 -- what is owed where nothing is left to make
 nil_is : {A : Type 0} (xs : List A) → is_nil xs ≡ true → xs ≡ []
 nil_is [] h = refl
 nil_is (x ∷ xs) h = let e : false ≡ true = h in absurd (cc)
 
-pub all_made : {R : Type 0} (order : R → List ℕ) (k : Kernel R) → is_nil k.rest.items ≡ true → (k.rest.items ≡ []) × (made order k.tables ≡ owed_by order k)
-all_made order k h = let nothing = nil_is k.rest.items h in (nothing, ap (owed (made order k.tables)) (sym nothing))
+pub all_made : {R : Type 0} (order : R → List ℕ) (k : Kernel R) → is_nil (left k.rest) ≡ true → (left k.rest ≡ []) × (outcome order k.tables ≡ owed_by order k)
+all_made order k h = let nothing = nil_is (left k.rest) h in (nothing, ap (owed (outcome order k.tables)) (sym nothing))
 
--- the change of a delivery, with its main line, is the next delivery
+-- changes are left where there are more than are made
+pub inside : (xs : List Change) (n : ℕ) → n < length xs → is_nil (drop n xs) ≡ false
+inside [] n h = absurd (omega (arith, h))
+inside (x ∷ xs) zero h = refl
+inside (x ∷ xs) (suc n) h = inside xs n (omega (arith, h))
+
+pub past_nil : (xs : List Change) (n : ℕ) → leb (length xs) n ≡ is_nil (drop n xs)
+past_nil xs n =
+    elim (cases_lt n (length xs)) [
+      | inl lt ↦ lt-leb (length xs) n lt ∙ sym (inside xs n lt)
+      | inr ge ↦ le-leb (length xs) n ge ∙ sym (ap is_nil (drop_all n xs ge))
+    ]
+
+-- where some are left, the next one is there
+pub next_inside : (xs : List Change) (n : ℕ) → is_nil (drop n xs) ≡ false → n < length xs
+next_inside xs n h =
+    elim (cases_lt n (length xs)) [
+      | inl lt ↦ lt
+      | inr ge ↦ absurd (let e : true ≡ false = sym (ap is_nil (drop_all n xs ge)) ∙ h in cc)
+    ]
+
+pub next_first : (xs : List Change) (n : ℕ) (d x : Change) → x ≡ get_or xs n d → n < length xs → drop n xs ≡ x ∷ drop (n + 1) xs
+next_first xs n d x is h =
+    let more : suc n ≡ n + 1 = omega arith in
+    drop-cons xs n d h ∙ (λ i. sym is i ∷ drop (more i) xs)
+
+-- the changes of a delivery, with its main line, are the next delivery
 pub told_delivery : (s : State) (t sig : ℕ) → next_delivery s ≡ Some (record { thread = t; signal = sig }) → s.pending ≡ one_pending t sig
-    → told_by t (DeliverHead t sig 1) (change_by (Deliver t sig) (begun s)) ≡ deliver s
+    → told_by t (DeliverHead t sig 1) (change_by (Over (Killed sig)) (change_by (OfSignal t sig Take) (begun s))) ≡ deliver s
 told_delivery s t sig next pending =
     let after : State = record (set_pending s t sig 0) { over = Some (Killed sig) } in
     sym (
     ap (delivered s) next
     ∙ ap (λ (n : ℕ). record { state = after; report = record nothing_told { tid = t; head = DeliverHead t sig n } }) (pends_once s.pending t sig pending))
 
--- a delivery was noted on an idle kernel
-pub noted_delivery : {R : Type 0} (order : R → List ℕ) (k q : Kernel R) (t sig : ℕ) → k.tables.report ≡ nothing_told
-    → next_delivery (view order k.tables) ≡ Some (record { thread = t; signal = sig }) → (view order k.tables).pending ≡ one_pending t sig
-    → q.rest.items ≡ Deliver t sig ∷ [] → q.tables ≡ k.tables → q.settings ≡ k.settings → q.tid ≡ t → q.head ≡ DeliverHead t sig 1
-    → IsBegun order k q (deliver (view order k.tables))
-unfolding made
-noted_delivery order k q t sig untold next pending items tables settings tid head =
-    let s : State = view order k.tables in
-    let is : made order q.tables ≡ begun s = ap (made order) tables ∙ (λ i. record { state = s; report = untold i }) in
-    let can : AllCan (begun s) (Deliver t sig ∷ []) = (pending, tt) in
+-- a move was begun: its changes were noted, then its thread and main line
+pub begun_by : {R : Type 0} (order : R → List ℕ) (k q r : Kernel R) (g : Outcome) (tid : ℕ) (head : _) → HasNotedSome order k q g → r ≡ record q { tid = tid; head = head }
+    → IsBegun order k r (told_by tid head g)
+begun_by order k q r g tid head noted told =
+    let rest = ap (λ (x : Kernel _). x.rest) told in
+    let tables = ap (λ (x : Kernel _). x.tables) told ∙ tables_stay order k q g noted.so_far in
     record {
-      begun = ap is_nil items;
-      owed = (λ i. told_by (tid i) (head i) (owed (is i) (items i))) ∙ told_delivery s t sig next pending;
-      can = subst (λ xs. AllCan (made order q.tables) xs) (sym items) (subst (λ (g : Made). AllCan g (Deliver t sig ∷ [])) (sym is) can);
+      begun = ap (λ (x : Rest). is_nil (left x)) rest ∙ noted.begun;
+      few = (let e = ap (λ (x : Rest). length x.noted.items) rest in let few = noted.so_far.few in omega (arith, e, few));
+      owed = (λ i. told_by (told i).tid (told i).head (owed (outcome order (tables i)) (left (rest i)))) ∙ ap (told_by tid head) noted.so_far.owed;
+      can = subst (λ (x : Rest). AllCan (outcome order r.tables) (left x)) (sym rest)
+          (subst (λ (x : _). AllCan (outcome order x) (left q.rest)) (sym tables) noted.so_far.can);
       tables = tables;
-      settings = settings;
+      settings = ap (λ (x : Kernel _). x.settings) told ∙ ap (λ (x : Kernel _). x.settings) noted.so_far.others;
     }

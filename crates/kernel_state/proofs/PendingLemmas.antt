@@ -11,7 +11,7 @@ use Rattle.kernel_state.specs.View.{one_pending, pending_of}
 use Rattle.kernel_state.specs.Executing.{delivery_by}
 use Rattle.kernel_state.specs.declared.tables.Fault.{Fault}
 
-in_range : (sig : ℕ) → IsInScope sig → (1 ≤ sig) × (sig ≤ 31)
+pub in_range : (sig : ℕ) → IsInScope sig → (1 ≤ sig) × (sig ≤ 31)
 in_range sig h = (grind (arith, nat_tests), grind (arith, nat_tests))
 
 pub none_pends : (s : State) (o : Option Fault) → s.pending ≡ pending_of o → o ≡ None → next_delivery s ≡ delivery_by None

@@ -1,7 +1,9 @@
 -- What the tables show after a change of one thread.
-use Rattle.std.proofs.Common.{◌≡◌, ◌≢◌, ◌∙◌, ap, sym, refl, ℕ, ◌+◌, arith, eqb, Bool, true, false, not, cond, find, ◌||◌, List, [], ◌∷◌, Option, Some, None, is_none, is_some}
-use Rattle.std.specs.Prelude.{fold, map, replicate, ◌==◌}
-use Rattle.std.specs.List.{list_any}
+use Rattle.std.proofs.Common.{◌≡◌, ◌≢◌, ◌∙◌, ap, sym, refl, ℕ, zero, suc, ◌+◌, ◌≤◌, arith, eqb, get_or, length, take, drop, Bool, true, false, not, cond, find, ◌||◌, List, [], ◌∷◌, Option, Some, None, is_none, is_some}
+use Rattle.std.specs.Prelude.{fold, map, ◌==◌}
+use Rattle.std.specs.List.{list_any, range_with_len}
+use Rattle.std.proofs.Math.Seq.{drop-cons}
+use Rattle.std.proofs.lemmas.List.{take_all}
 use Rattle.std.proofs.lemmas.Bool.{ne_eqb}
 use Rattle.std.specs.Option.{IsSome}
 use Rattle.thread_base.specs.Maps.{put}
@@ -17,30 +19,29 @@ use Rattle.cond_table.specs.ConditionMap.{conditions as condition_map}
 use Rattle.mutex_table.specs.MutexMap.{mutexes as mutex_map}
 use Rattle.kernel_state.specs.Changing.{HasNoMutex}
 use Rattle.kernel_state.proofs.MutexLemmas.{none_orphaned}
-use Rattle.posix_model.specs.Leaving.{without_thread, with_end}
+use Rattle.posix_model.specs.Leaving.{without_thread, plus_each}
 use Rattle.posix_model.specs.Lines.{sig_numbers}
-use Rattle.posix_model.specs.declared.Report.{Report}
 use Rattle.posix_model.specs.Threads.{exists, free_number, some_live}
-use Rattle.kernel_state.specs.View.{context_of, contexts_of, lives_of, mutexes_of, conditions_of, pending_of, thread_by, thread_of, threads_of, standing_of, view, with_ready}
+use Rattle.kernel_state.specs.View.{context_of, contexts_of, activities_of, pending_of, thread_by, thread_of, threads_of, standing_of, view, with_ready}
 use Rattle.kernel_state.specs.declared.tables.Tables.{Tables}
-use Rattle.kernel_state.specs.declared.life.Life.{Life}
+use Rattle.kernel_state.specs.declared.activity.Activity.{Activity}
 use Rattle.posix_model.specs.declared.Wait.{Wait}
 
 -- a thread's row, life and context change
-pub threads_put : (rows : ℕ → Option Row) (lives : ℕ → Life) (contexts : ℕ → Registers) (t : ℕ) (row : Row) (life : Life) (regs : Registers)
-    → threads_of (put rows t (Some row)) (put lives t life) (put contexts t regs) ≡ put (threads_of rows lives contexts) t (thread_by row life regs)
-threads_put rows lives contexts t row life regs =
-    put_is (threads_of rows lives contexts) (threads_of (put rows t (Some row)) (put lives t life) (put contexts t regs)) t (thread_by row life regs)
-    (λ i. thread_of (put_same rows t (Some row) i) (put_same lives t life i) (put_same contexts t regs i))
-    (λ u ne i. thread_of (put_other rows t (Some row) u ne i) (put_other lives t life u ne i) (put_other contexts t regs u ne i))
+pub threads_put : (rows : ℕ → Option Row) (activities : ℕ → Activity) (contexts : ℕ → Registers) (t : ℕ) (row : Row) (activity : Activity) (regs : Registers)
+    → threads_of (put rows t (Some row)) (put activities t activity) (put contexts t regs) ≡ put (threads_of rows activities contexts) t (thread_by row activity regs)
+threads_put rows activities contexts t row activity regs =
+    put_is (threads_of rows activities contexts) (threads_of (put rows t (Some row)) (put activities t activity) (put contexts t regs)) t (thread_by row activity regs)
+    (λ i. thread_of (put_same rows t (Some row) i) (put_same activities t activity i) (put_same contexts t regs i))
+    (λ u ne i. thread_of (put_other rows t (Some row) u ne i) (put_other activities t activity u ne i) (put_other contexts t regs u ne i))
 
 -- a thread's row goes
-pub threads_freed : (rows : ℕ → Option Row) (lives : ℕ → Life) (contexts : ℕ → Registers) (t : ℕ)
-    → threads_of (put rows t None) lives contexts ≡ put (threads_of rows lives contexts) t no_thread
-threads_freed rows lives contexts t =
-    put_is (threads_of rows lives contexts) (threads_of (put rows t None) lives contexts) t no_thread
-    (ap (λ o. thread_of o (lives t) (contexts t)) (put_same rows t None))
-    (λ u ne. ap (λ o. thread_of o (lives u) (contexts u)) (put_other rows t None u ne))
+pub threads_freed : (rows : ℕ → Option Row) (activities : ℕ → Activity) (contexts : ℕ → Registers) (t : ℕ)
+    → threads_of (put rows t None) activities contexts ≡ put (threads_of rows activities contexts) t no_thread
+threads_freed rows activities contexts t =
+    put_is (threads_of rows activities contexts) (threads_of (put rows t None) activities contexts) t no_thread
+    (ap (λ o. thread_of o (activities t) (contexts t)) (put_same rows t None))
+    (λ u ne. ap (λ o. thread_of o (activities u) (contexts u)) (put_other rows t None u ne))
 
 here_by : (ended : Option ℕ) (wait : Option Wait) → is_absent (standing_of ended wait) ≡ false
 here_by (Some value) wait = refl
@@ -48,13 +49,13 @@ here_by None (Some wait) = refl
 here_by None None = refl
 
 -- there is a row exactly where there is a thread
-pub row_absent : (o : Option Row) (life : Life) (regs : Registers) → is_absent (thread_of o life regs).standing ≡ is_none o
-row_absent None life regs = refl
-row_absent (Some row) life regs = here_by row.ended life.wait
+pub row_absent : (o : Option Row) (activity : Activity) (regs : Registers) → is_absent (thread_of o activity regs).standing ≡ is_none o
+row_absent None activity regs = refl
+row_absent (Some row) activity regs = here_by row.ended activity.wait
 
-there_row : (o : Option Row) (life : Life) (regs : Registers) → not (is_absent (thread_of o life regs).standing) ≡ true → IsSome o
-there_row None life regs h = let e : false ≡ true = h in absurd (cc)
-there_row (Some row) life regs h = refl
+there_row : (o : Option Row) (activity : Activity) (regs : Registers) → not (is_absent (thread_of o activity regs).standing) ≡ true → IsSome o
+there_row None activity regs h = let e : false ≡ true = h in absurd (cc)
+there_row (Some row) activity regs h = refl
 
 -- the context of the thread whose registers are in place, and of another
 pub in_place : (m : ℕ → Registers) (placed t : ℕ) (r : Registers) → t ≡ placed → r ≡ put m placed r t
@@ -82,30 +83,30 @@ saved_anew saved after placed t r s ne e =
 
 module _ {R : Type 0} (order : R → List ℕ) where
   -- a thread is kept otherwise, and nothing else changes
-  pub view_kept : (k q : Tables R) (t : ℕ) (row : Row) (life : Life) (regs : Registers)
-      → rows q.threads ≡ put (rows k.threads) t (Some row) → lives_of q.lives ≡ put (lives_of k.lives) t life → contexts_of q ≡ put (contexts_of k) t regs
+  pub view_kept : (k q : Tables R) (t : ℕ) (row : Row) (activity : Activity) (regs : Registers)
+      → rows q.threads ≡ put (rows k.threads) t (Some row) → activities_of q.activities ≡ put (activities_of k.activities) t activity → contexts_of q ≡ put (contexts_of k) t regs
       → order q.ready ≡ order k.ready → q.mutexes ≡ k.mutexes → q.conditions ≡ k.conditions → q.fault ≡ k.fault → q.memory ≡ k.memory → q.over ≡ k.over
-      → view order q ≡ set_thread (view order k) t (thread_by row life regs)
+      → view order q ≡ set_thread (view order k) t (thread_by row activity regs)
   unfolding view
-  view_kept k q t row life regs a b c d h n e f g =
-      let changed : threads_of (rows q.threads) (lives_of q.lives) (contexts_of q) ≡ threads_of (put (rows k.threads) t (Some row)) (put (lives_of k.lives) t life) (put (contexts_of k) t regs) =
+  view_kept k q t row activity regs a b c d h n e f g =
+      let changed : threads_of (rows q.threads) (activities_of q.activities) (contexts_of q) ≡ threads_of (put (rows k.threads) t (Some row)) (put (activities_of k.activities) t activity) (put (contexts_of k) t regs) =
       λ i. threads_of (a i) (b i) (c i) in
-      let threads = changed ∙ threads_put (rows k.threads) (lives_of k.lives) (contexts_of k) t row life regs in
-      λ i. record { threads = threads i; ready = d i; mutexes = mutexes_of (mutex_map (h i)); conditions = conditions_of (condition_map (n i)); pending = pending_of (e i); memory = f i; over = g i }
+      let threads = changed ∙ threads_put (rows k.threads) (activities_of k.activities) (contexts_of k) t row activity regs in
+      λ i. record { threads = threads i; ready = d i; mutexes = mutex_map (h i); conditions = condition_map (n i); pending = pending_of (e i); memory = f i; over = g i }
 
   -- there is a row where there is a thread
   pub view_row : (k : Tables R) (t : ℕ) → exists (view order k) t ≡ true → IsSome (rows k.threads t)
   unfolding view
-  view_row k t h = there_row (rows k.threads t) (lives_of k.lives t) (contexts_of k t) h
+  view_row k t h = there_row (rows k.threads t) (activities_of k.activities t) (contexts_of k t) h
 
-  pub view_thread : (k : Tables R) (t : ℕ) → (view order k).threads t ≡ thread_of (rows k.threads t) (lives_of k.lives t) (contexts_of k t)
+  pub view_thread : (k : Tables R) (t : ℕ) → (view order k).threads t ≡ thread_of (rows k.threads t) (activities_of k.activities t) (contexts_of k t)
   unfolding view
   view_thread k t = refl
 
   -- the least free number of the machine is that of the rows
   pub view_free : (k : Tables R) → free_number (view order k) ≡ free_row (rows k.threads)
   unfolding view
-  view_free k = λ i. find (λ t. row_absent (rows k.threads t) (lives_of k.lives t) (contexts_of k t) i) tids
+  view_free k = λ i. find (λ t. row_absent (rows k.threads t) (activities_of k.activities t) (contexts_of k t) i) tids
 
   -- a row of a new thread, at the number that is free
   pub made_row : (k : Tables R) (t : ℕ) (result : Option ℕ) (map : ℕ → Option Row) (row : Row) → free_number (view order k) ≡ Some t → result ≡ free_row (rows k.threads)
@@ -114,15 +115,15 @@ module _ {R : Type 0} (order : R → List ℕ) where
       after ∙ ap (λ o. put_found (rows k.threads) o row) (found ∙ sym (view_free k) ∙ free)
 
   -- the number of a thread is free
-  pub view_freed : (k q : Tables R) (t : ℕ) → rows q.threads ≡ put (rows k.threads) t None → q.lives ≡ k.lives → contexts_of q ≡ contexts_of k
+  pub view_freed : (k q : Tables R) (t : ℕ) → rows q.threads ≡ put (rows k.threads) t None → q.activities ≡ k.activities → contexts_of q ≡ contexts_of k
       → order q.ready ≡ order k.ready → q.mutexes ≡ k.mutexes → q.conditions ≡ k.conditions → q.fault ≡ k.fault → q.memory ≡ k.memory → q.over ≡ k.over
       → view order q ≡ set_thread (view order k) t no_thread
   unfolding view
   view_freed k q t a b c d h n e f g =
-      let changed : threads_of (rows q.threads) (lives_of q.lives) (contexts_of q) ≡ threads_of (put (rows k.threads) t None) (lives_of k.lives) (contexts_of k) =
-      λ i. threads_of (a i) (lives_of (b i)) (c i) in
-      let threads = changed ∙ threads_freed (rows k.threads) (lives_of k.lives) (contexts_of k) t in
-      λ i. record { threads = threads i; ready = d i; mutexes = mutexes_of (mutex_map (h i)); conditions = conditions_of (condition_map (n i)); pending = pending_of (e i); memory = f i; over = g i }
+      let changed : threads_of (rows q.threads) (activities_of q.activities) (contexts_of q) ≡ threads_of (put (rows k.threads) t None) (activities_of k.activities) (contexts_of k) =
+      λ i. threads_of (a i) (activities_of (b i)) (c i) in
+      let threads = changed ∙ threads_freed (rows k.threads) (activities_of k.activities) (contexts_of k) t in
+      λ i. record { threads = threads i; ready = d i; mutexes = mutex_map (h i); conditions = condition_map (n i); pending = pending_of (e i); memory = f i; over = g i }
 
 live_by : (ended : Option ℕ) (wait : Option Wait) → is_live (standing_of ended wait) ≡ is_none ended
 live_by (Some value) wait = refl
@@ -130,9 +131,9 @@ live_by None (Some wait) = refl
 live_by None None = refl
 
 -- a thread has not ended where its row says so
-row_live : (o : Option Row) (life : Life) (regs : Registers) → is_live (thread_of o life regs).standing ≡ live_row o
-row_live None life regs = refl
-row_live (Some row) life regs = live_by row.ended life.wait
+row_live : (o : Option Row) (activity : Activity) (regs : Registers) → is_live (thread_of o activity regs).standing ≡ live_row o
+row_live None activity regs = refl
+row_live (Some row) activity regs = live_by row.ended activity.wait
 
 or_true : (b : Bool) → b || true ≡ true
 or_true true = refl
@@ -158,7 +159,7 @@ module _ {R : Type 0} (order : R → List ℕ) where
   view_live k n e =
       ap (λ m. not (m == 0)) e
       ∙ some_counted (λ t. live_row (rows k.threads t)) tids 0
-      ∙ sym (λ i. list_any (λ t. row_live (rows k.threads t) (lives_of k.lives t) (contexts_of k t) i) tids)
+      ∙ sym (λ i. list_any (λ t. row_live (rows k.threads t) (activities_of k.activities t) (contexts_of k t) i) tids)
 
 -- a thread is gone, nothing pended on it, and it had no mutex
 pub gone_calmly : (s : State) (t : ℕ) (left : Thread) → s.pending ≡ none_pending → HasNoMutex s t → with_ready (set_thread s t left) (without t s.ready) ≡ without_thread s t left
@@ -167,15 +168,19 @@ gone_calmly s t left calm bare =
     let none = none_orphaned s t bare in
     λ i. record (set_thread s t left) { ready = without t s.ready; mutexes = none i; pending = sym same i }
 
-none_dropped : map (none_pending 0) sig_numbers ≡ replicate 32 0
-unfolding sig_numbers
-none_dropped = refl
+-- nothing more of each signal
+plus_none : (n a : ℕ) (counts : List ℕ) → a + n ≤ length counts → map (λ sig. get_or counts sig 0 + 0) (range_with_len a n) ≡ take n (drop a counts)
+plus_none zero a counts h = refl
+plus_none (suc n) a counts h =
+    let next : a + 1 ≡ suc a = omega arith in
+    let here : get_or counts a 0 + 0 ≡ get_or counts a 0 = omega arith in
+    let rest : map (λ sig. get_or counts sig 0 + 0) (range_with_len (a + 1) n) ≡ take n (drop (suc a) counts) =
+    plus_none n (a + 1) counts (omega (arith, h)) ∙ ap (λ k. take n (drop k counts)) next in
+    (λ i. here i ∷ rest i) ∙ sym (ap (take (suc n)) (drop-cons counts a 0 (omega (arith, h))))
 
--- its end is told, with nothing that was dropped
-pub told_end : (report : Report) (pending : ℕ → ℕ → ℕ) (t value : ℕ) → pending ≡ none_pending
-    → record report { drops = replicate 32 0; gone = true; gone_value = value } ≡ with_end report (pending t) value
-told_end report pending t value calm =
-    λ i. record report { drops = (sym none_dropped ∙ ap (λ (m : ℕ → ℕ → ℕ). map (m t) sig_numbers) (sym calm)) i; gone = true; gone_value = value }
+pub none_dropped : (counts : List ℕ) → length counts ≡ 32 → counts ≡ plus_each counts (none_pending 0)
+unfolding sig_numbers
+none_dropped counts full = sym (plus_none 32 0 counts (omega (arith, full)) ∙ take_all 32 counts (omega (arith, full)))
 
 -- some member passes exactly where one is found
 pub any_found : (p : ℕ → Bool) (xs : List ℕ) → is_some (find p xs) ≡ list_any p xs

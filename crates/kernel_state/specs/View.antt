@@ -6,20 +6,20 @@ use Rattle.thread_base.specs.declared.Policy.TheVariants.{Other}
 use Rattle.rv_exec.specs.declared.Regs.{Regs}
 use Rattle.thread_table.specs.Rows.{rows}
 use Rattle.thread_table.specs.declared.Row.{Row}
-use Rattle.mutex_table.specs.MutexMap.{mutexes as mutex_map, Mutex as KeptMutex}
+use Rattle.mutex_table.specs.MutexMap.{mutexes as mutex_map}
 use Rattle.mutex_table.specs.declared.Look.{Look}
-use Rattle.cond_table.specs.ConditionMap.{conditions as condition_map, Condition as KeptCondition}
+use Rattle.cond_table.specs.ConditionMap.{conditions as condition_map}
 use Rattle.context_frames.specs.Contexts.{saved_of}
 use Rattle.context_frames.specs.declared.Saved.{Saved}
 use Rattle.context_frames.specs.declared.Saved.TheVariants.{User, Tail, Fresh}
-use Rattle.posix_model.specs.State.{State, Thread, Registers, Phase, Normal, Leaving, Standing, Ready, Waits, Ended, no_thread, none_pending, Mutex, Condition}
-use Rattle.posix_model.specs.Scheduling.{own}
-use Rattle.posix_model.specs.Changes.{Made}
+use Rattle.posix_model.specs.State.{State, Thread, Registers, Phase, Normal, Leaving, Standing, Ready, Waits, Ended, no_thread, none_pending, Mutex}
+use Rattle.posix_model.specs.Scheduling.{eff}
+use Rattle.posix_model.specs.Changes.{Outcome}
 use Rattle.posix_model.specs.declared.Wait.{Wait}
-use Rattle.kernel_state.specs.declared.life.Life.{Life}
-use Rattle.kernel_state.specs.declared.life.Lives.{Lives}
+use Rattle.kernel_state.specs.declared.activity.Activity.{Activity}
+use Rattle.kernel_state.specs.declared.activity.Activities.{Activities}
 use Rattle.kernel_state.specs.declared.tables.Fault.{Fault}
-use Rattle.kernel_state.specs.declared.tables.Kept.{Kept}
+use Rattle.kernel_state.specs.declared.tables.ThreadRecord.{ThreadRecord}
 use Rattle.kernel_state.specs.declared.tables.Tables.{Tables}
 
 -- the registers of a context
@@ -33,12 +33,12 @@ context_of (Tail r step) = registers_of r
 context_of (Fresh r) = registers_of r
 
 -- nothing is kept beside a row and a context
-abbrev pub no_life : Life
-no_life = record { wait = None; leaving = None }
+abbrev pub no_activity : Activity
+no_activity = record { wait = None; leaving = None }
 
 -- what is kept of each thread beside its row and its context
-unfoldable pub lives_of : Lives → ℕ → Life
-lives_of table = numbered no_life table.lives
+unfoldable pub activities_of : Activities → ℕ → Activity
+activities_of table = numbered no_activity table.activities
 
 -- a thread is in its exit where a value of it is kept (POSIX.1 pthread_exit)
 abbrev pub phase_of : Option ℕ → Phase
@@ -52,29 +52,29 @@ standing_of None (Some wait) = Waits wait
 standing_of None None = Ready
 
 -- a thread's record
-abbrev pub thread_by : Row → Life → Registers → Thread
-thread_by row life registers = record {
+abbrev pub thread_by : Row → Activity → Registers → Thread
+thread_by row activity registers = record {
   registers = registers;
   base = row.base;
   policy = row.policy;
   used = row.used;
   detached = row.detached;
-  phase = phase_of life.leaving;
-  standing = standing_of row.ended life.wait;
+  phase = phase_of activity.leaving;
+  standing = standing_of row.ended activity.wait;
 }
 
 -- a number's record: none is there where no row is kept
-abbrev pub thread_of : Option Row → Life → Registers → Thread
-thread_of None life registers = no_thread
-thread_of (Some row) life registers = thread_by row life registers
+abbrev pub thread_of : Option Row → Activity → Registers → Thread
+thread_of None activity registers = no_thread
+thread_of (Some row) activity registers = thread_by row activity registers
 
 -- all numbers' records
-abbrev pub threads_of : (ℕ → Option Row) → (ℕ → Life) → (ℕ → Registers) → ℕ → Thread
-threads_of rows lives contexts t = thread_of (rows t) (lives t) (contexts t)
+abbrev pub threads_of : (ℕ → Option Row) → (ℕ → Activity) → (ℕ → Registers) → ℕ → Thread
+threads_of rows activities contexts t = thread_of (rows t) (activities t) (contexts t)
 
 -- a thread's record as the tables keep it
-abbrev pub kept_thread : Kept → Thread
-kept_thread k = thread_by k.row k.life (registers_of k.regs)
+abbrev pub thread_in : ThreadRecord → Thread
+thread_in k = thread_by k.row k.activity (registers_of k.regs)
 
 -- one signal pends once, on one thread
 abbrev pub one_pending : ℕ → ℕ → ℕ → ℕ → ℕ
@@ -89,15 +89,6 @@ pending_of (Some fault) = one_pending fault.thread fault.signal
 abbrev pub contexts_of : {R : Type 0} → Tables R → ℕ → Registers
 contexts_of k = put (λ t. context_of (saved_of k.frames t)) k.placed (registers_of k.regs)
 
--- a mutex as its table keeps it
-abbrev pub mutex_of : Option KeptMutex → Option Mutex
-mutex_of None = None
-mutex_of (Some mutex) = Some (record { kind = mutex.kind; protocol = mutex.protocol; holder = mutex.holder; waiters = mutex.waiters })
-
--- all numbers' mutexes
-abbrev pub mutexes_of : (ℕ → Option KeptMutex) → ℕ → Option Mutex
-mutexes_of map m = mutex_of (map m)
-
 -- the mutex of what it does and who has it, and of who waits for it
 abbrev pub seen : Look → List ℕ → Mutex
 seen look waiters = record { kind = look.kind; protocol = look.protocol; holder = look.holder; waiters = waiters }
@@ -107,30 +98,21 @@ abbrev pub mutex_by : Option Look → List ℕ → Option Mutex
 mutex_by None waiters = None
 mutex_by (Some look) waiters = Some (seen look waiters)
 
--- a condition as its table keeps it
-abbrev pub condition_of : Option KeptCondition → Option Condition
-condition_of None = None
-condition_of (Some condition) = Some (record { mutex = condition.mutex; waiters = condition.waiters })
-
--- all numbers' conditions
-abbrev pub conditions_of : (ℕ → Option KeptCondition) → ℕ → Option Condition
-conditions_of map c = condition_of (map c)
-
 -- the machine state that the tables show
 unfoldable pub view : {R : Type 0} → (R → List ℕ) → Tables R → State
 view order k = record {
-  threads = threads_of (rows k.threads) (lives_of k.lives) (contexts_of k);
+  threads = threads_of (rows k.threads) (activities_of k.activities) (contexts_of k);
   ready = order k.ready;
-  mutexes = mutexes_of (mutex_map k.mutexes);
-  conditions = conditions_of (condition_map k.conditions);
+  mutexes = mutex_map k.mutexes;
+  conditions = condition_map k.conditions;
   pending = pending_of k.fault;
   memory = k.memory;
   over = k.over;
 }
 
 -- the state, with what has been told so far of the move in progress
-unfoldable pub made : {R : Type 0} → (R → List ℕ) → Tables R → Made
-made order k = record { state = view order k; report = k.report }
+unfoldable pub outcome : {R : Type 0} → (R → List ℕ) → Tables R → Outcome
+outcome order k = record { state = view order k; report = k.report }
 
 -- the row of thread 1 at the start
 abbrev pub main_row : Row
@@ -140,6 +122,10 @@ main_row = record { base = 8; policy = Other; used = 0; detached = false; joiner
 abbrev pub with_ready : State → List ℕ → State
 with_ready s ready = record s { ready = ready }
 
--- priorities are those of the threads in the ready list, each its own
+-- the priorities that the ready list keeps are the effective ones of its threads
 unfoldable pub AreCurrent : (ℕ → ℕ) → State → Type 0
-AreCurrent prios s = (t : ℕ) → is_in t s.ready ≡ true → prios t ≡ own s t
+AreCurrent prios s = (t : ℕ) → is_in t s.ready ≡ true → prios t ≡ eff s t
+
+-- they are after some changes where they were before
+abbrev pub StayCurrent : {R : Type 0} → (R → List ℕ) → (R → ℕ → ℕ) → Tables R → Tables R → Type 0
+StayCurrent order prios k q = AreCurrent (prios k.ready) (view order k) → AreCurrent (prios q.ready) (view order q)

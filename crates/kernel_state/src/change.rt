@@ -1,3 +1,5 @@
+ghost use Rattle.std.specs.Prelude.{◌≡◌};
+
 use posix_model::{Ending, RetakeReply, Wait};
 use thread_base::{Holder, Kind, Policy, Prio, Protocol, Sig, Tid};
 
@@ -13,54 +15,94 @@ pub struct Beginning {
     pub stack: u32,
 }
 
+/// A change of one thread and of its place in the ready list.
+#[derive(Clone, Copy, Debug)]
+pub enum ThreadChange {
+    /// The caller of a call is answered.
+    Reply { error: u32, value: u32 },
+    /// A ready thread goes after the others.
+    ToEnd,
+    /// A new thread is made, after the others.
+    Create { beginning: Beginning },
+    /// A thread starts its exit, or takes a new value for it.
+    StartExit { value: u32 },
+    /// A ready thread waits.
+    Await { wait: Wait },
+    /// A waiting thread is answered, and becomes ready.
+    Answer { error: u32, value: u32 },
+    /// A thread is detached.
+    Detach,
+    /// The number of a thread that has ended is free.
+    Free,
+    /// A thread ends with a value, which its joiner has got, where it was joined.
+    End { value: u32, joined: bool },
+}
+
+/// A change of one mutex, or of one place among its waiters.
+#[derive(Clone, Copy, Debug)]
+pub enum MutexChange {
+    /// It is made, and is free.
+    Make { kind: Kind, protocol: Protocol },
+    /// It is there no more.
+    Destroy,
+    /// It has another holder, or none; its waiters stay.
+    Hold { holder: Holder },
+    /// A thread stands after the others that wait for it.
+    AddWaiter { thread: Tid },
+    /// A thread stands among its waiters no more.
+    DropWaiter { thread: Tid },
+}
+
+/// A change of one condition, or of one place among its waiters.
+#[derive(Clone, Copy, Debug)]
+pub enum ConditionChange {
+    /// It is made, and nobody waits for it.
+    Make,
+    /// It is there no more.
+    Destroy,
+    /// A thread stands after the others that wait for it, with the mutex that they all wait with.
+    Enter { thread: Tid, mutex: u32 },
+    /// A thread stands among its waiters no more.
+    Leave { thread: Tid },
+}
+
+/// A change of how many of a signal pend on a thread.
+#[derive(Clone, Copy, Debug)]
+pub enum SignalChange {
+    /// One more pends.
+    Pend,
+    /// None pends: the signal is taken with its whole count.
+    Take,
+}
+
 /// One small change of the machine, with what it tells. It writes one thread's record, one mutex, condition or
 /// other thing, and one place of one list at most.
 #[derive(Clone, Copy, Debug)]
 pub enum Change {
-    /// The caller of a call is answered.
-    Reply {
+    Thread {
         thread: Tid,
-        error: u32,
-        value: u32,
+        change: ThreadChange,
     },
-    /// A ready thread goes behind the others.
-    ToEnd {
-        thread: Tid,
+    Mutex {
+        mutex: u32,
+        change: MutexChange,
     },
-    /// A new thread is made, behind the others.
-    Create {
-        thread: Tid,
-        beginning: Beginning,
+    Condition {
+        cond: u32,
+        change: ConditionChange,
     },
-    /// A thread starts its exit, or takes a new value for it.
-    StartExit {
+    Signal {
         thread: Tid,
-        value: u32,
+        signal: Sig,
+        change: SignalChange,
     },
-    /// A ready thread waits.
-    Await {
+    /// A waiting thread takes a mutex back: it has it so often and goes on with the reply where the mutex is free
+    /// by then, and else waits for it, after the others.
+    Retake {
         thread: Tid,
-        wait: Wait,
-    },
-    /// A waiting thread is answered, and becomes ready.
-    Answer {
-        thread: Tid,
-        error: u32,
-        value: u32,
-    },
-    /// A thread is detached.
-    Detach {
-        thread: Tid,
-    },
-    /// The number of a thread that has ended is free.
-    Free {
-        thread: Tid,
-    },
-    /// A thread ends with a value, which its joiner has got, where it was joined.
-    End {
-        thread: Tid,
-        value: u32,
-        joined: bool,
+        mutex: u32,
+        count: u32,
+        reply: RetakeReply,
     },
     /// So many bytes of a buffer were written to a descriptor.
     Output {
@@ -72,70 +114,18 @@ pub enum Change {
     Over {
         ending: Ending,
     },
-    /// A fault's signal pends on its thread.
-    Pend {
-        thread: Tid,
-        signal: Sig,
-    },
-    /// The signal of a fault is delivered to its thread: its default action ends the process.
-    Deliver {
-        thread: Tid,
-        signal: Sig,
-    },
-    /// A mutex is made, which is free.
-    MakeMutex {
-        mutex: u32,
-        kind: Kind,
-        protocol: Protocol,
-    },
-    /// A mutex is there no more.
-    DestroyMutex {
-        mutex: u32,
-    },
-    /// A mutex has another holder, or none; its waiters stay.
-    Hold {
-        mutex: u32,
-        holder: Holder,
-    },
-    /// A thread stands behind the others that wait for a mutex.
-    AddMutexWaiter {
-        mutex: u32,
-        thread: Tid,
-    },
-    /// A thread stands among those that wait for a mutex no more.
-    DropMutexWaiter {
-        mutex: u32,
-        thread: Tid,
-    },
-    /// A condition is made, for which nobody waits.
-    MakeCondition {
-        cond: u32,
-    },
-    /// A condition is there no more.
-    DestroyCondition {
-        cond: u32,
-    },
-    /// A thread stands behind the others that wait for a condition, with the mutex that they all wait with.
-    EnterCondition {
-        cond: u32,
-        thread: Tid,
-        mutex: u32,
-    },
-    /// A thread stands among those that wait for a condition no more.
-    LeaveCondition {
-        cond: u32,
-        thread: Tid,
-    },
-    /// A waiting thread waits for something else from now on.
-    AwaitNext {
-        thread: Tid,
-        wait: Wait,
-    },
-    /// A waiting thread has its mutex back: it is answered, or starts its exit, and becomes ready.
-    GoOn {
-        thread: Tid,
-        reply: RetakeReply,
-    },
+}
+
+impl Change {
+    /// The caller of a call is answered an error and a value.
+    pub fn reply(thread: Tid, error: u32, value: u32) -> Change
+        ensures { result ≡ Change.Thread thread (ThreadChange.Reply error value) }
+    {
+        Change::Thread {
+            thread,
+            change: ThreadChange::Reply { error, value },
+        }
+    }
 }
 
 impl Default for Change {

@@ -1,74 +1,61 @@
 ghost use Rattle.std.specs.Prelude.{◌≡◌, ◌<◌, ◌+◌, ◌↔◌, [], true, is_some, IfSome, IsNone, IsTrue, length};
-ghost use Rattle.thread_base.specs.Maps.{numbered};
+ghost use Rattle.thread_base.specs.Maps.{put, numbered};
+ghost use Rattle.thread_base.specs.Objects.{cond_mutex, cond_waiters};
 ghost use Rattle.thread_base.specs.Orders.{is_in};
 ghost use Rattle.thread_base.specs.Priority.{first_greatest};
 ghost use Rattle.posix_model.specs.Good.{IsGood};
-ghost use Rattle.posix_model.specs.State.{count_by, count_due};
-ghost use Rattle.posix_model.specs.Mutexes.{reply_by, reply_due};
-ghost use Rattle.posix_model.specs.Conditions.{cond_mutex, cond_waiters, insert as insert_of, in_order, is_used};
+ghost use Rattle.posix_model.specs.State.{wait_of, count_due};
+ghost use Rattle.posix_model.specs.Mutexes.{reply_due};
+ghost use Rattle.posix_model.specs.Conditions.{insert as insert_of, in_order, is_used};
 ghost use Rattle.posix_model.specs.Scheduling.{eff};
-ghost use Rattle.kernel_state.specs.View.{view, made, kept_thread};
-ghost use Rattle.kernel_state.specs.Changing.{change_by, prios_by, Can};
+ghost use Rattle.cond_table.specs.ConditionMap.{conditions as condition_map};
+ghost use Rattle.kernel_state.specs.View.{view, outcome, thread_in, StayCurrent};
+ghost use Rattle.kernel_state.specs.Changing.{change_by, condition_change_by, CanCondition};
 
-use crate::change::Change;
-use crate::tables::{Kept, Tables};
+use crate::change::{Change, ConditionChange};
+use crate::tables::{Tables, ThreadRecord};
 use arrayvec::ArrayVec;
+use cond_table::Conds;
 use posix_model::{RetakeReply, Wait};
 use ready_queues::Ready;
 use thread_base::Tid;
 
-impl Kept {
+impl ThreadRecord {
+    /// The wait of the thread; None exactly where it does not wait.
+    pub fn wait(self) -> Option<Wait>
+        ensures { result ≡ wait_of (thread_in self).standing }
+    {
+        match self.row.ended {
+            Some(_) => None,
+            None => self.activity.wait,
+        }
+    }
+
     /// How often the thread has the mutex that its wait gives it; 1 where it waits for none.
     pub fn count_due(self) -> u32
-        ensures { result ≡ count_due (kept_thread self).standing }
+        ensures { result ≡ count_due (thread_in self).standing }
     {
-        if self.row.ended.is_some() {
-            return 1;
-        }
-        match self.life.wait {
-            None => 1,
-            Some(wait) => count_by(wait),
+        match self.wait() {
+            Some(Wait::Cond { count, .. }) => count,
+            Some(Wait::Reacquire { count, .. }) => count,
+            _ => 1,
         }
     }
 
     /// What the thread is answered when it has the mutex for which it waits; 0 where it waits for none.
     pub fn reply_due(self) -> RetakeReply
-        ensures { result ≡ reply_due (kept_thread self).standing }
+        ensures { result ≡ reply_due (thread_in self).standing }
     {
-        if self.row.ended.is_some() {
-            return RetakeReply::Answer(0);
+        match self.wait() {
+            Some(Wait::Reacquire { reply, .. }) => reply,
+            _ => RetakeReply::Answer(0),
         }
-        match self.life.wait {
-            None => RetakeReply::Answer(0),
-            Some(wait) => reply_by(wait),
-        }
-    }
-}
-
-/// How often a wait gives a thread its mutex.
-fn count_by(wait: Wait) -> u32
-    ensures { result ≡ count_by wait }
-{
-    match wait {
-        Wait::Join(_) => 1,
-        Wait::Mutex(_) => 1,
-        Wait::Cond { count, .. } => count,
-        Wait::Reacquire { count, .. } => count,
-    }
-}
-
-/// What a thread is answered at the end of a wait for a mutex.
-fn reply_by(wait: Wait) -> RetakeReply
-    ensures { result ≡ reply_by wait }
-{
-    match wait {
-        Wait::Reacquire { reply, .. } => reply,
-        _ => RetakeReply::Answer(0),
     }
 }
 
 impl<R: Ready + Drop> Tables<R> {
     /// Whether there is a condition of this number.
+    #[tactic(auto, unfolding(crate::specs::View::view))]
     pub fn has_condition(&self, c: u32) -> bool
         ensures member { result ≡ is_some ((view R.order self.now).conditions c) }
         ensures limit { IsTrue result → c < 256 }
@@ -78,6 +65,7 @@ impl<R: Ready + Drop> Tables<R> {
 
     /// The mutex with which the waiters of a condition wait; None exactly where nobody waits or no condition is
     /// there.
+    #[tactic(auto, unfolding(crate::specs::View::view))]
     pub fn condition_mutex(&self, c: u32) -> Option<u32>
         ensures mutex { result ≡ cond_mutex ((view R.order self.now).conditions c) }
         ensures empty { IsNone result ↔ (cond_waiters ((view R.order self.now).conditions c) ≡ []) }
@@ -117,40 +105,29 @@ impl<R: Ready + Drop> Tables<R> {
         self.conditions.uses(m)
     }
 
-    /// Makes a condition, for which nobody waits.
-    pub(crate) fn make_condition(&mut self, c: u32)
-        requires { Can (Change.MakeCondition c) (made R.order self.old) }
-        ensures made { made R.order self.new ≡ change_by (Change.MakeCondition c) (made R.order self.old) }
-        ensures prios { R.prio self.new.ready ≡ prios_by (Change.MakeCondition c) (view R.order self.old) (R.prio self.old.ready) }
+    /// Makes a change of one condition.
+    #[tactic(auto, unfolding(crate::specs::View::outcome, crate::specs::View::view), using(crate::proofs::CurrentLemmas::alike))]
+    pub(crate) fn change_condition(&mut self, c: u32, change: ConditionChange)
+        requires { CanCondition change c (view R.order self.old).conditions }
+        ensures outcome { outcome R.order self.new ≡ change_by (Change.Condition c change) (outcome R.order self.old) }
+        ensures current { StayCurrent R.order R.prio self.old self.new }
     {
-        self.conditions.init(c);
+        change.make(&mut self.conditions, c);
     }
+}
 
-    /// Takes a condition away for which nobody waits.
-    pub(crate) fn destroy_condition(&mut self, c: u32)
-        requires { Can (Change.DestroyCondition c) (made R.order self.old) }
-        ensures made { made R.order self.new ≡ change_by (Change.DestroyCondition c) (made R.order self.old) }
-        ensures prios { R.prio self.new.ready ≡ prios_by (Change.DestroyCondition c) (view R.order self.old) (R.prio self.old.ready) }
+impl ConditionChange {
+    /// Makes the change of the condition of a number.
+    fn make(self, conditions: &mut Conds, c: u32)
+        requires { CanCondition self c (condition_map conditions.old) }
+        ensures { condition_map conditions.new ≡ put (condition_map conditions.old) c (condition_change_by self (condition_map conditions.old c)) }
     {
-        self.conditions.destroy(c);
-    }
-
-    /// Puts a thread behind the others that wait for a condition, with the mutex that they all wait with.
-    pub(crate) fn enter_condition(&mut self, c: u32, t: Tid, m: u32)
-        requires { Can (Change.EnterCondition c t m) (made R.order self.old) }
-        ensures made { made R.order self.new ≡ change_by (Change.EnterCondition c t m) (made R.order self.old) }
-        ensures prios { R.prio self.new.ready ≡ prios_by (Change.EnterCondition c t m) (view R.order self.old) (R.prio self.old.ready) }
-    {
-        self.conditions.wait(c, t, m);
-    }
-
-    /// Takes a thread out of those that wait for a condition.
-    pub(crate) fn leave_condition(&mut self, c: u32, t: Tid)
-        requires { Can (Change.LeaveCondition c t) (made R.order self.old) }
-        ensures made { made R.order self.new ≡ change_by (Change.LeaveCondition c t) (made R.order self.old) }
-        ensures prios { R.prio self.new.ready ≡ prios_by (Change.LeaveCondition c t) (view R.order self.old) (R.prio self.old.ready) }
-    {
-        self.conditions.remove(t);
+        match self {
+            ConditionChange::Make => conditions.init(c),
+            ConditionChange::Destroy => conditions.destroy(c),
+            ConditionChange::Enter { thread, mutex } => conditions.wait(c, thread, mutex),
+            ConditionChange::Leave { thread } => conditions.remove(thread),
+        }
     }
 }
 

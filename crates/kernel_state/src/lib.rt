@@ -1,17 +1,20 @@
 //! All tables of the kernel, the machine state that they show, and the small changes of it.
 #![tactic(auto)]
 
+mod activity;
 mod change;
-mod changes;
 mod conditions;
 mod kernel;
-mod life;
 mod mutexes;
+mod rest;
 mod tables;
 #[cfg(test)]
 mod tests;
+mod threads;
+mod waking;
 
-pub use change::{Beginning, Change};
+pub use activity::{Activities, Activity};
+pub use change::{Beginning, Change, ConditionChange, MutexChange, SignalChange, ThreadChange};
 pub use kernel::{Kernel, Stepped, arguments_from};
-pub use life::{Life, Lives};
-pub use tables::{Fault, Kept, Tables};
+pub use rest::Rest;
+pub use tables::{Fault, Tables, ThreadRecord};

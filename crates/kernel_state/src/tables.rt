@@ -5,15 +5,16 @@ ghost use Rattle.posix_model.specs.Good.{IsGood};
 ghost use Rattle.posix_model.specs.Calls.{is_taken};
 ghost use Rattle.posix_model.specs.Changes.{set_thread};
 ghost use Rattle.posix_model.specs.Reports.{nothing_told};
-ghost use Rattle.posix_model.specs.Scheduling.{chosen};
+ghost use Rattle.posix_model.specs.Scheduling.{own, chosen};
 ghost use Rattle.posix_model.specs.Start.{start_state, start_registers};
+ghost use Rattle.posix_model.specs.Trace.{left};
 ghost use Rattle.posix_model.specs.Threads.{exists, free_number, joiner, some_live};
 ghost use Rattle.thread_base.specs.Maps.{put};
 ghost use Rattle.posix_model.specs.Deliveries.{next_delivery};
 ghost use Rattle.kernel_state.specs.Executing.{HasExecuted, delivery_by};
-ghost use Rattle.kernel_state.specs.View.{view, kept_thread, registers_of, context_of, contexts_of, with_ready, main_row, pending_of, AreCurrent};
+ghost use Rattle.kernel_state.specs.View.{view, thread_in, registers_of, context_of, contexts_of, with_ready, main_row, pending_of, AreCurrent, StayCurrent};
 
-use crate::life::{Life, Lives};
+use crate::activity::{Activities, Activity};
 use cond_table::Conds;
 use context_frames::{Frames, Saved};
 use elf_image::EntryPoint;
@@ -34,21 +35,21 @@ pub struct Fault {
 
 /// All that the tables keep of a thread.
 #[derive(Clone, Copy, Debug)]
-pub struct Kept {
+pub struct ThreadRecord {
     pub row: Row,
-    pub life: Life,
+    pub activity: Activity,
     pub regs: Regs,
 }
 
-impl Kept {
+impl ThreadRecord {
     /// Whether the thread waits for the end of another.
     fn joins(self, t: Tid) -> bool
-        ensures { result ≡ joins t (kept_thread self).standing }
+        ensures { result ≡ joins t (thread_in self).standing }
     {
         if self.row.ended.is_some() {
             return false;
         }
-        match self.life.wait {
+        match self.activity.wait {
             None => false,
             Some(wait) => wait.is_for_end_of(t),
         }
@@ -63,7 +64,7 @@ pub struct Tables<R: Ready + Drop> {
     pub(crate) ready: R,
     pub(crate) mutexes: Mutexes,
     pub(crate) conditions: Conds,
-    pub(crate) lives: Lives,
+    pub(crate) activities: Activities,
     pub(crate) frames: Frames,
     pub(crate) regs: Regs,
     pub(crate) placed: Tid,
@@ -100,7 +101,7 @@ impl<R: Ready + Drop> Tables<R> {
             ready,
             mutexes,
             conditions,
-            lives: Lives::new(),
+            activities: Activities::new(),
             frames,
             regs: first_regs(&memory, entry),
             placed: main,
@@ -142,15 +143,15 @@ impl<R: Ready + Drop> Tables<R> {
     }
 
     /// What the tables keep of a thread; None exactly where there is none.
-    pub fn kept(&self, t: Tid) -> Option<Kept>
-        ensures thread { IfSome result (λ k. kept_thread k ≡ (view R.order self.now).threads t) }
+    pub fn find(&self, t: Tid) -> Option<ThreadRecord>
+        ensures thread { IfSome result (λ k. thread_in k ≡ (view R.order self.now).threads t) }
         ensures there { is_some result ≡ exists (view R.order self.now) t }
     {
         match self.threads.row(t) {
             None => None,
-            Some(row) => Some(Kept {
+            Some(row) => Some(ThreadRecord {
                 row,
-                life: self.lives.life(t),
+                activity: self.activities.activity(t),
                 regs: self.context(t),
             }),
         }
@@ -160,7 +161,7 @@ impl<R: Ready + Drop> Tables<R> {
     pub fn exists(&self, t: Tid) -> bool
         ensures { result ≡ exists (view R.order self.now) t }
     {
-        self.kept(t).is_some()
+        self.find(t).is_some()
     }
 
     /// The thread of a number; None exactly where there is none.
@@ -177,9 +178,9 @@ impl<R: Ready + Drop> Tables<R> {
     fn joins(&self, u: Tid, t: Tid) -> bool
         ensures { result ≡ joins t ((view R.order self.now).threads u).standing }
     {
-        match self.kept(u) {
+        match self.find(u) {
             None => false,
-            Some(kept) => kept.joins(t),
+            Some(known) => known.joins(t),
         }
     }
 
@@ -214,16 +215,16 @@ impl<R: Ready + Drop> Tables<R> {
         requires { exists (view R.order self.now) t ≡ true }
         ensures { result ≡ is_taken (view R.order self.now) t }
     {
-        self.there(t).row.detached || self.joiner(t).is_some()
+        self.known(t).row.detached || self.joiner(t).is_some()
     }
 
     /// What the tables keep of a thread that is there.
-    pub fn there(&self, t: Tid) -> Kept
+    pub fn known(&self, t: Tid) -> ThreadRecord
         requires { exists (view R.order self.now) t ≡ true }
-        ensures { kept_thread result ≡ (view R.order self.now).threads t }
+        ensures { thread_in result ≡ (view R.order self.now).threads t }
     {
-        match self.kept(t) {
-            Some(kept) => kept,
+        match self.find(t) {
+            Some(known) => known,
             None => unreachable!(),
         }
     }
@@ -248,7 +249,7 @@ impl<R: Ready + Drop> Tables<R> {
         ensures view { view R.order self.new ≡ view R.order self.old }
         ensures placed { self.new.placed ≡ t }
         ensures report { self.new.report ≡ self.old.report }
-        ensures ready { self.new.ready ≡ self.old.ready }
+        ensures current { StayCurrent R.order R.prio self.old self.new }
     {
         let regs = self.context(t);
         self.frames.save(self.placed, Saved::User(self.regs));
@@ -270,6 +271,21 @@ impl<R: Ready + Drop> Tables<R> {
         }
     }
 
+    /// How many of each signal still pend, over all threads, by the signal's number.
+    pub fn left(&self) -> [u64; 32]
+        ensures { result ≡ left (view R.order self.now) }
+    {
+        let mut left = [0; 32];
+        match self.fault {
+            None => {}
+            Some(fault) => {
+                let _in_range = fault.thread.number();
+                left[fault.signal.number() as usize] = 1;
+            }
+        }
+        left
+    }
+
     /// How the process ended, where it is over.
     #[tactic(auto, unfolding(crate::specs::View::view))]
     pub fn over(&self) -> Option<Ending>
@@ -285,41 +301,41 @@ impl<R: Ready + Drop> Tables<R> {
         ensures executed { HasExecuted (view R.order self.old) self.old.placed result (view R.order self.new) }
         ensures placed { self.new.placed ≡ self.old.placed }
         ensures report { self.new.report ≡ self.old.report }
-        ensures ready { self.new.ready ≡ self.old.ready }
+        ensures current { StayCurrent R.order R.prio self.old self.new }
     {
         exec(&mut self.regs, &mut self.memory)
     }
 
     /// Changes what the tables keep of a thread that is there; the others stay.
-    pub(crate) fn keep(&mut self, t: Tid, kept: Kept)
+    pub(crate) fn put_record(&mut self, t: Tid, known: ThreadRecord)
         requires { exists (view R.order self.old) t ≡ true }
-        ensures view { view R.order self.new ≡ set_thread (view R.order self.old) t (kept_thread kept) }
+        ensures view { view R.order self.new ≡ set_thread (view R.order self.old) t (thread_in known) }
         ensures report { self.new.report ≡ self.old.report }
-        ensures ready { self.new.ready ≡ self.old.ready }
+        ensures current { known.row.base ≡ own (view R.order self.old) t → StayCurrent R.order R.prio self.old self.new }
     {
-        self.threads.put(t, kept.row);
-        self.lives.put(t, kept.life);
-        self.put_context(t, kept.regs);
+        self.threads.put(t, known.row);
+        self.activities.put(t, known.activity);
+        self.put_context(t, known.regs);
     }
 
     /// Keeps a new thread, of the least number that is free.
-    pub(crate) fn add(&mut self, t: Tid, kept: Kept)
+    pub(crate) fn add_record(&mut self, t: Tid, known: ThreadRecord)
         requires { free_number (view R.order self.old) ≡ Some t }
-        ensures view { view R.order self.new ≡ set_thread (view R.order self.old) t (kept_thread kept) }
+        ensures view { view R.order self.new ≡ set_thread (view R.order self.old) t (thread_in known) }
         ensures report { self.new.report ≡ self.old.report }
-        ensures ready { self.new.ready ≡ self.old.ready }
+        ensures current { is_in t (view R.order self.old).ready ≡ false → StayCurrent R.order R.prio self.old self.new }
     {
-        let _number = self.threads.make(kept.row);
-        self.lives.put(t, kept.life);
-        self.put_context(t, kept.regs);
+        let _number = self.threads.make(known.row);
+        self.activities.put(t, known.activity);
+        self.put_context(t, known.regs);
     }
 
     /// Keeps nothing more of a thread that is there: its number is free.
-    pub(crate) fn remove(&mut self, t: Tid)
+    pub(crate) fn remove_record(&mut self, t: Tid)
         requires { exists (view R.order self.old) t ≡ true }
         ensures view { view R.order self.new ≡ set_thread (view R.order self.old) t no_thread }
         ensures report { self.new.report ≡ self.old.report }
-        ensures ready { self.new.ready ≡ self.old.ready }
+        ensures current { is_in t (view R.order self.old).ready ≡ false → StayCurrent R.order R.prio self.old self.new }
     {
         self.threads.free(t);
     }
@@ -331,25 +347,27 @@ impl<R: Ready + Drop> Tables<R> {
         self.threads.live() != 0
     }
 
-    /// Puts a ready thread behind the others.
+    /// Puts a ready thread after the others.
     #[tactic(auto, unfolding(crate::specs::View::view))]
     pub(crate) fn put_last(&mut self, t: Tid)
         requires { is_in t (view R.order self.old).ready ≡ true }
         ensures view { view R.order self.new ≡ with_ready (view R.order self.old) (without t (view R.order self.old).ready ++ t ∷ []) }
-        ensures prio { R.prio self.new.ready ≡ R.prio self.old.ready }
         ensures report { self.new.report ≡ self.old.report }
+        ensures current { StayCurrent R.order R.prio self.old self.new }
     {
         self.ready.to_tail(t);
     }
 
-    /// Puts a thread that was not ready behind those that are.
+    /// Puts a thread that was not ready after those that are, with its base priority.
     #[tactic(auto, unfolding(crate::specs::View::view))]
-    pub(crate) fn put_behind(&mut self, t: Tid, base: Prio)
-        requires { is_in t (view R.order self.old).ready ≡ false }
+    pub(crate) fn append(&mut self, t: Tid, base: Prio)
+        requires away { is_in t (view R.order self.old).ready ≡ false }
+        requires base { base ≡ own (view R.order self.old) t }
         ensures view { view R.order self.new ≡ with_ready (view R.order self.old) ((view R.order self.old).ready ++ t ∷ []) }
-        ensures prio { R.prio self.new.ready ≡ put (R.prio self.old.ready) t base }
         ensures report { self.new.report ≡ self.old.report }
+        ensures current { StayCurrent R.order R.prio self.old self.new }
     {
+        let _in_range = t.number();
         self.ready.append(t, base);
     }
 
@@ -358,8 +376,8 @@ impl<R: Ready + Drop> Tables<R> {
     pub(crate) fn take_out(&mut self, t: Tid)
         requires { is_in t (view R.order self.old).ready ≡ true }
         ensures view { view R.order self.new ≡ with_ready (view R.order self.old) (without t (view R.order self.old).ready) }
-        ensures prio { R.prio self.new.ready ≡ R.prio self.old.ready }
         ensures report { self.new.report ≡ self.old.report }
+        ensures current { StayCurrent R.order R.prio self.old self.new }
     {
         self.ready.remove(t);
     }

@@ -1,8 +1,14 @@
-use Rattle.std.proofs.Common.{◌∙◌, ap, refl, [], ◌∷◌, ◌++◌}
-use Rattle.kernel_state.proofs.NoteLemmas.{noted}
+use Rattle.std.proofs.Common.{ap, arith, length}
+use Rattle.posix_model.specs.Changes.{begun}
+use Rattle.kernel_state.specs.View.{view}
+use Rattle.kernel_state.specs.declared.change.Change.{Change}
+use Rattle.kernel_state.proofs.NoteLemmas.{noted_none}
 use Rattle.kernel_state.proofs.kernel.Kernel.note_one.Goals as goal
+
+pub note_more-requires : goal.note_more-requires
+note_more-requires g c = let e = ap (length {A = Change}) c.requires.ready.idle.none in omega (arith, e)
 
 pub returns : goal.returns
 returns g c =
-    noted g.R.Ready.order c.args.self.now c.args.t c.requires.ready c.note.new.self (c.args.change ∷ []) refl
-    (c.note.ensures.rest ∙ ap (λ xs. xs ++ c.args.change ∷ []) c.requires.ready.idle) c.note.ensures.others (c.requires.can, tt)
+    let k = c.args.self.now in
+    c.note_more.ensures.noted k (begun (view g.R.Ready.order k.tables)) (noted_none g.R.Ready.order k c.requires.ready.idle c.requires.ready.untold) c.requires.can

@@ -7,4 +7,4 @@ pub returns : goal.returns
 unfolding view
 returns g c =
     let k = c.args.self.now in
-    c.chosen.ensures.first ∙ chosen_is (view g.R.Ready.order k) (g.R.Ready.prio k.ready) c.chosen.ensures.distinct c.requires
+    c.chosen.ensures.first ∙ chosen_is (view g.R.Ready.order k) (g.R.Ready.prio k.ready) c.requires

@@ -1,7 +1,7 @@
 use Rattle.std.proofs.Common.{◌∙◌, ap, sym}
 use Rattle.mutex_table.specs.MutexMap.{mutexes as mutex_map}
-use Rattle.posix_model.specs.Mutexes.{waiters_in}
-use Rattle.kernel_state.specs.View.{view, mutex_of, mutex_by}
+use Rattle.thread_base.specs.Objects.{waiters_in}
+use Rattle.kernel_state.specs.View.{view, mutex_by}
 use Rattle.kernel_state.proofs.MutexLemmas.{seen_by}
 use Rattle.kernel_state.proofs.tables.Tables.mutex.Goals as goal
 
@@ -9,4 +9,4 @@ pub returns-clause-mutex : goal.returns-clause-mutex
 unfolding view
 returns-clause-mutex g c =
     let is = mutex_map c.args.self.now.mutexes c.args.m in
-    seen_by is ∙ ap (λ o. mutex_by o (waiters_in (mutex_of is))) (sym c.look.ensures.look)
+    seen_by is ∙ ap (λ o. mutex_by o (waiters_in is)) (sym c.look.ensures.look)

@@ -11,7 +11,7 @@ use Rattle.kernel_state.proofs.tables.Tables.new.Goals as goal
 pub returns-clause-start : goal.returns-clause-start
 returns-clause-start g c =
     view_start g.R.Ready.order
-    (record { threads = c.make-number.new.self; ready = c.append.new.self; mutexes = c.in_ok-mutexes.mutexes; conditions = c.in_ok-conditions.conditions; lives = c.new-4.result; frames = c.in_ok-frames.frames; regs = c.first_regs.result; placed = c.at-main.result; memory = c.args.memory; fault = None; over = None; report = c.nothing.result })
+    (record { threads = c.make-number.new.self; ready = c.append.new.self; mutexes = c.in_ok-mutexes.mutexes; conditions = c.in_ok-conditions.conditions; activities = c.new-4.result; frames = c.in_ok-frames.frames; regs = c.first_regs.result; placed = c.at-main.result; memory = c.args.memory; fault = None; over = None; report = c.nothing.result })
     c.args.memory c.args.entry.0
     (first_made (rows c.make-number.new.self) (rows c.new-threads.result) c.first_row.result c.first_row.result c.make-number.result c.new-threads.ensures c.first_row.ensures c.make-number.ensures.number c.make-number.ensures.after)
     c.new-4.ensures
