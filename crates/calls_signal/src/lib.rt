@@ -4,48 +4,70 @@
 #[cfg(test)]
 mod tests;
 
-ghost use Rattle.std.specs.Prelude.{◌≡◌, false, length};
+ghost use Rattle.std.specs.Prelude.{◌≡◌, ◌<◌, ◌≤◌, true, false, length};
+ghost use Rattle.thread_base.specs.Numbers.{family_of};
+ghost use Rattle.thread_base.specs.Orders.{is_nil};
 ghost use Rattle.rv_exec.specs.Window.{fits};
 ghost use Rattle.posix_model.specs.Calls as calls;
-ghost use Rattle.kernel_state.specs.View.{view, made, AreCurrent};
+ghost use Rattle.posix_model.specs.Calls.{call as call_of, told_call, row_of, signal_calls};
+ghost use Rattle.kernel_state.specs.View.{view, outcome, StayCurrent};
 ghost use Rattle.kernel_state.specs.Changing.{AllCan};
-ghost use Rattle.kernel_state.specs.Moves.{is_nil, IsStep};
-ghost use Rattle.kernel_state.specs.Begun.{CanBegin, IsNoted, IsBegun, arguments_of};
+ghost use Rattle.kernel_state.specs.Moves.{left, IsStep};
+ghost use Rattle.kernel_state.specs.Begun.{CanBegin, HasNotedSome, IsBegun, arguments_of};
 
 use kernel_state::{Change, Kernel, Stepped, arguments_from};
 use posix_model::{Arguments, Head, Reply};
 use ready_queues::Ready;
 use rv_exec::Memory;
-use thread_base::{CallNo, Errno, Tid};
+use thread_base::{CallNo, Errno, Family, Tid};
 
 /// The most bytes that one write writes.
 const MOST_WRITTEN: u32 = 65_536;
 
-/// Begins the call write, 64, of a thread that is ready: what it owes is its row of the call table.
-#[tactic(auto, unfolding(posix_model::specs::Calls::table_row))]
+/// Begins a call of this crate, of a thread that is ready: what it owes is its row of the call table.
 pub fn begin<R: Ready + Drop>(k: &mut Kernel<R>, t: Tid, call: CallNo, args: [u32; 4])
     requires ready { CanBegin R.order k.old t }
-    requires here { call ≡ 64 }
-    ensures { IsBegun R.order k.old k.new (calls.told_call t call (arguments_of args) (calls.table_row (view R.order k.old.tables) t call (arguments_of args))) }
+    requires here { family_of call ≡ Family.Signals }
+    ensures { IsBegun R.order k.old k.new (call_of (view R.order k.old.tables) t call (arguments_of args)) }
 {
-    let reply = write(k, t, arguments_from(args));
+    begin_row(k, t, call.number(), args);
+}
+
+/// Begins the row of a number among the calls of this crate.
+fn begin_row<R: Ready + Drop>(k: &mut Kernel<R>, t: Tid, number: u32, args: [u32; 4])
+    requires { CanBegin R.order k.old t }
+    ensures { IsBegun R.order k.old k.new (told_call t number (arguments_of args) (row_of signal_calls number (view R.order k.old.tables) t (arguments_of args))) }
+{
+    let reply = row(k, t, number, arguments_from(args));
     k.note_head(
         t,
         Head::Call {
-            no: call.number(),
+            no: number,
             args,
             reply,
         },
     );
 }
 
+/// Makes the row of one of the calls of this crate; a number that it does not have answers ENOSYS.
+fn row<R: Ready + Drop>(k: &mut Kernel<R>, t: Tid, number: u32, c: Arguments) -> Reply
+    requires { CanBegin R.order k.old t }
+    ensures noted { HasNotedSome R.order k.old k.new (row_of signal_calls number (view R.order k.old.tables) t c).outcome }
+    ensures reply { result ≡ (row_of signal_calls number (view R.order k.old.tables) t c).reply }
+{
+    match number {
+        64 => write(k, t, c),
+        _ => k.refuse(t, Errno::ENOSYS),
+    }
+}
+
 /// Makes the next small change of the move in progress: what it owes stays. Exit, with the move's report,
 /// comes exactly where it was the last one.
 pub fn step<R: Ready + Drop>(k: &mut Kernel<R>) -> Stepped
-    requires left { is_nil k.old.rest.items ≡ false }
-    requires can { AllCan (made R.order k.old.tables) k.old.rest.items }
+    requires left { is_nil (left k.old.rest) ≡ false }
+    requires can { AllCan (outcome R.order k.old.tables) (left k.old.rest) }
     ensures step { IsStep R.order k.old result k.new }
-    ensures current { AreCurrent (R.prio k.old.tables.ready) (view R.order k.old.tables) → AreCurrent (R.prio k.new.tables.ready) (view R.order k.new.tables) }
+    ensures current { StayCurrent R.order R.prio k.old.tables k.new.tables }
 {
     k.step_move()
 }
@@ -53,36 +75,34 @@ pub fn step<R: Ready + Drop>(k: &mut Kernel<R>) -> Stepped
 /// Writes the first bytes of a buffer to a descriptor, by POSIX.1 write.
 fn write<R: Ready + Drop>(k: &mut Kernel<R>, t: Tid, c: Arguments) -> Reply
     requires { CanBegin R.order k.old t }
-    ensures noted { IsNoted R.order k.old k.new (calls.write (view R.order k.old.tables) t c).made }
+    ensures noted { HasNotedSome R.order k.old k.new (calls.write (view R.order k.old.tables) t c).outcome }
     ensures reply { result ≡ (calls.write (view R.order k.old.tables) t c).reply }
 {
-    if c.a != 1 && c.a != 2 {
+    if c.a0 != 1 && c.a0 != 2 {
         return k.refuse(t, Errno::EBADF);
     }
-    if !can_read(k.tables().memory(), c.b, c.d) {
+    if !can_read(k.tables().memory(), c.a1, c.a2) {
         return k.refuse(t, Errno::EFAULT);
     }
-    let count = c.d.min(MOST_WRITTEN);
+    let count = c.a2.min(MOST_WRITTEN);
     note_written(k, t, c, count);
     Reply::Values(0, count)
 }
 
-/// Notes that so many bytes of a buffer were written.
+/// Notes that so many bytes of a buffer in the window were written.
 fn note_written<R: Ready + Drop>(k: &mut Kernel<R>, t: Tid, c: Arguments, count: u32)
-    requires { CanBegin R.order k.old t }
-    ensures { IsNoted R.order k.old k.new (calls.written (view R.order k.old.tables) t c count).made }
+    requires ready { CanBegin R.order k.old t }
+    requires inside { fits (length (view R.order k.old.tables).memory) c.a1 c.a2 ≡ true }
+    requires fewer { count ≤ c.a2 }
+    ensures { HasNotedSome R.order k.old k.new (calls.written (view R.order k.old.tables) t c count).outcome }
 {
-    let answer = Change::Reply {
-        thread: t,
-        error: 0,
-        value: count,
-    };
+    let answer = Change::reply(t, 0, count);
     if count == 0 {
         k.note_one(t, answer);
     } else {
         let output = Change::Output {
-            descriptor: c.a,
-            buffer: c.b,
+            descriptor: c.a0,
+            buffer: c.a1,
             length: count,
         };
         k.note_two(t, output, answer);

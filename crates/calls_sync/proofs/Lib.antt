@@ -1,5 +1,3 @@
-pub mod NotingLemmas
 pub mod MutexLemmas
-pub mod HandLemmas
-pub mod WakeLemmas
 pub mod WaitLemmas
+pub mod WakeLemmas

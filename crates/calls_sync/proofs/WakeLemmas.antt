@@ -3,19 +3,20 @@ use Rattle.std.proofs.Common.{◌≡◌, ◌∙◌, ap, sym, refl, subst, arith,
 use Rattle.std.proofs.lemmas.Bool.{eq-eqb, ne_eqb}
 use Rattle.std.proofs.lemmas.List.{take_more}
 use Rattle.thread_base.specs.Orders.{is_in, IsOrder}
+use Rattle.thread_base.specs.Objects.{cond_mutex, cond_waiters}
 use Rattle.posix_model.specs.State.{State, Thread, Condition, is_absent, is_ready, waits_on, mutex_with}
 use Rattle.posix_model.specs.Good.{IsGood}
-use Rattle.posix_model.specs.Changes.{Made, begun}
+use Rattle.posix_model.specs.Changes.{Outcome, begun}
 use Rattle.posix_model.specs.Scheduling.{eff}
 use Rattle.posix_model.specs.Threads.{exists}
-use Rattle.posix_model.specs.Conditions.{cond_mutex, cond_waiters, in_order, wake, wake_all}
+use Rattle.posix_model.specs.Conditions.{in_order, wake, wake_all}
 use Rattle.posix_model.specs.declared.RetakeReply.TheVariants.{Answer}
 use Rattle.posix_model.proofs.StandingLemmas.{never, ready_waits_on}
 use Rattle.posix_model.proofs.GoodConditions.{good_wake}
 use Rattle.posix_model.proofs.WakeLemmas.{IsOrder-in_order, in_order_is_in, wake_elsewhere}
 use Rattle.kernel_state.specs.Changing.{IsListed}
 use Rattle.kernel_state.proofs.ConditionLemmas.{few_threads}
-use Rattle.calls_sync.specs.Waking.{WaitsOn}
+use Rattle.kernel_state.specs.Waking.{WaitsOn}
 
 -- a waiter of a condition waits on it, with its mutex
 pub is_waiter_on : (s : State) (u c m : ℕ) → IsGood s → is_in u (cond_waiters (s.conditions c)) ≡ true → cond_mutex (s.conditions c) ≡ Some m → WaitsOn s u c m
@@ -33,7 +34,7 @@ there_still : (s r : State) (t : ℕ) → r.threads t ≡ s.threads t → exists
 there_still s r t same h = ap (λ (x : Thread). not (is_absent x.standing)) same ∙ h
 
 -- a thread that is ready stays as it is where a cond_waiter is woken
-pub ready_stays : (g : Made) (t u c m : ℕ) → is_ready (g.state.threads t).standing ≡ true → WaitsOn g.state u c m
+pub ready_stays : (g : Outcome) (t u c m : ℕ) → is_ready (g.state.threads t).standing ≡ true → WaitsOn g.state u c m
     → (wake g u (Answer 0)).state.threads t ≡ g.state.threads t
 ready_stays g t u c m ready waiting_on =
     wake_elsewhere g u t (Answer 0) (λ same. never (waits_on c (g.state.threads u).standing) waiting_on.waits
@@ -65,15 +66,15 @@ not_before (x ∷ xs) (suc i) d order few =
     ∙ not_before xs i d order.3 (omega (arith, few))
 
 -- threads that are woken one after another
-wake_all_push : (g : Made) (xs : List ℕ) (u : ℕ) → wake_all g (xs ++ u ∷ []) ≡ wake (wake_all g xs) u (Answer 0)
+wake_all_push : (g : Outcome) (xs : List ℕ) (u : ℕ) → wake_all g (xs ++ u ∷ []) ≡ wake (wake_all g xs) u (Answer 0)
 wake_all_push g [] u = refl
 wake_all_push g (x ∷ xs) u = wake_all_push (wake g x (Answer 0)) xs u
 
-good_all : (g : Made) (xs : List ℕ) → IsGood g.state → IsGood (wake_all g xs).state
+good_all : (g : Outcome) (xs : List ℕ) → IsGood g.state → IsGood (wake_all g xs).state
 good_all g [] good = good
 good_all g (x ∷ xs) good = good_all (wake g x (Answer 0)) xs (good_wake g x (Answer 0) good)
 
-all_elsewhere : (g : Made) (xs : List ℕ) (t : ℕ) → is_in t xs ≡ false → (wake_all g xs).state.threads t ≡ g.state.threads t
+all_elsewhere : (g : Outcome) (xs : List ℕ) (t : ℕ) → is_in t xs ≡ false → (wake_all g xs).state.threads t ≡ g.state.threads t
 all_elsewhere g [] t none = refl
 all_elsewhere g (x ∷ xs) t none =
     let apart = or_parts (eqb t x) (is_in t xs) none in

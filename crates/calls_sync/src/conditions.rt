@@ -1,71 +1,72 @@
 ghost use Rattle.std.specs.Prelude.{◌≡◌, ◌≤◌, true, false, length, Some, is_some};
 ghost use Rattle.thread_base.specs.Holders.{count_of};
+ghost use Rattle.thread_base.specs.Objects.{waiters_in, cond_mutex, cond_waiters};
 ghost use Rattle.thread_base.specs.Orders.{is_in};
 ghost use Rattle.posix_model.specs.State.{Mutex, Condition};
 ghost use Rattle.posix_model.specs.Changes.{begun};
-ghost use Rattle.posix_model.specs.Conditions.{cond_mutex, cond_waiters, in_order, is_other, next_woken, wake, wake_all};
+ghost use Rattle.posix_model.specs.Conditions.{in_order, is_other, next_woken, wake, wake_all};
 ghost use Rattle.posix_model.specs.ConditionCalls as rows;
-ghost use Rattle.posix_model.specs.Mutexes.{waiters_of};
 ghost use Rattle.posix_model.specs.Replies.{values};
 ghost use Rattle.posix_model.specs.Scheduling.{eff};
 ghost use Rattle.posix_model.specs.Good.{IsGood};
 ghost use Rattle.posix_model.specs.Threads.{exists};
 ghost use Rattle.posix_model.specs.declared.RetakeReply.TheVariants.{Answer};
 ghost use Rattle.kernel_state.specs.View.{view, seen};
-ghost use Rattle.kernel_state.specs.Begun.{CanBegin, HasNoted, IsNoted};
+ghost use Rattle.kernel_state.specs.Begun.{CanBegin, HasNoted, HasNotedSome};
 
-use crate::hands::{hand_over, is_free_mutex, wake};
 use crate::mutexes::answer;
-use kernel_state::{Change, Kernel};
+use kernel_state::{Change, ConditionChange, Kernel, ThreadChange};
 use mutex_table::Look;
-use posix_model::{Arguments, Reply, Wait};
+use posix_model::{Arguments, Reply, RetakeReply, Wait};
 use ready_queues::Ready;
 use thread_base::{Errno, Tid};
 
 /// Makes a condition, by POSIX.1 pthread_cond_init.
 pub(crate) fn cond_init<R: Ready + Drop>(k: &mut Kernel<R>, t: Tid, c: Arguments) -> Reply
     requires { CanBegin R.order k.old t }
-    ensures noted { IsNoted R.order k.old k.new (rows.cond_init (view R.order k.old.tables) t c).made }
+    ensures noted { HasNotedSome R.order k.old k.new (rows.cond_init (view R.order k.old.tables) t c).outcome }
     ensures reply { result ≡ (rows.cond_init (view R.order k.old.tables) t c).reply }
 {
-    if c.a >= 256 {
+    if c.a0 >= 256 {
         return k.refuse(t, Errno::EINVAL);
     }
-    if k.tables().has_condition(c.a) {
+    if k.tables().has_condition(c.a0) {
         return k.refuse(t, Errno::EBUSY);
     }
-    k.note_two(t, Change::MakeCondition { cond: c.a }, answer(t));
+    let change = ConditionChange::Make;
+    k.note_two(t, Change::Condition { cond: c.a0, change }, answer(t));
     Reply::Values(0, 0)
 }
 
 /// Takes a condition away for which nobody waits, by POSIX.1 pthread_cond_destroy.
 pub(crate) fn cond_destroy<R: Ready + Drop>(k: &mut Kernel<R>, t: Tid, c: Arguments) -> Reply
     requires { CanBegin R.order k.old t }
-    ensures noted { IsNoted R.order k.old k.new (rows.cond_destroy (view R.order k.old.tables) t c).made }
+    ensures noted { HasNotedSome R.order k.old k.new (rows.cond_destroy (view R.order k.old.tables) t c).outcome }
     ensures reply { result ≡ (rows.cond_destroy (view R.order k.old.tables) t c).reply }
 {
-    if !k.tables().has_condition(c.a) {
+    if !k.tables().has_condition(c.a0) {
         return k.refuse(t, Errno::EINVAL);
     }
-    if k.tables().condition_mutex(c.a).is_some() {
+    if k.tables().condition_mutex(c.a0).is_some() {
         return k.refuse(t, Errno::EBUSY);
     }
-    k.note_two(t, Change::DestroyCondition { cond: c.a }, answer(t));
+    let change = ConditionChange::Destroy;
+    k.note_two(t, Change::Condition { cond: c.a0, change }, answer(t));
     Reply::Values(0, 0)
 }
 
 /// Waits for a condition with a mutex, which is released, by POSIX.1 pthread_cond_wait.
 pub(crate) fn cond_wait<R: Ready + Drop>(k: &mut Kernel<R>, t: Tid, c: Arguments) -> Reply
     requires { CanBegin R.order k.old t }
-    ensures noted { IsNoted R.order k.old k.new (rows.cond_wait (view R.order k.old.tables) t c).made }
+    ensures noted { HasNotedSome R.order k.old k.new (rows.cond_wait (view R.order k.old.tables) t c).outcome }
     ensures reply { result ≡ (rows.cond_wait (view R.order k.old.tables) t c).reply }
 {
-    if !k.tables().has_condition(c.a) {
+    if !k.tables().has_condition(c.a0) {
         return k.refuse(t, Errno::EINVAL);
     }
-    match k.tables().mutex(c.b) {
+    match k.tables().mutex(c.a1) {
         None => k.refuse(t, Errno::EINVAL),
-        Some(look) => wait_with(k, t, c.a, c.b, look),
+        Some(look) => wait_with(k, t, c.a0, c.a1, look),
     }
 }
 
@@ -83,11 +84,11 @@ fn is_other(bound: Option<u32>, m: u32) -> bool
 fn wait_with<R: Ready + Drop>(k: &mut Kernel<R>, t: Tid, c: u32, m: u32, look: Look) -> Reply
     requires ready { CanBegin R.order k.old t }
     requires exists { is_some ((view R.order k.old.tables).conditions c) ≡ true }
-    requires found { (view R.order k.old.tables).mutexes m ≡ Some (seen look (waiters_of (view R.order k.old.tables) m)) }
+    requires found { (view R.order k.old.tables).mutexes m ≡ Some (seen look (waiters_in ((view R.order k.old.tables).mutexes m))) }
     ensures noted { (condition : Condition) → (view R.order k.old.tables).conditions c ≡ Some condition
-        → IsNoted R.order k.old k.new (rows.cond_wait_of (view R.order k.old.tables) t c (Some condition) m (Some (seen look (waiters_of (view R.order k.old.tables) m)))).made }
+        → HasNotedSome R.order k.old k.new (rows.cond_wait_of (view R.order k.old.tables) t c (Some condition) m (Some (seen look (waiters_in ((view R.order k.old.tables).mutexes m))))).outcome }
     ensures reply { (condition : Condition) → (view R.order k.old.tables).conditions c ≡ Some condition
-        → result ≡ (rows.cond_wait_of (view R.order k.old.tables) t c (Some condition) m (Some (seen look (waiters_of (view R.order k.old.tables) m)))).reply }
+        → result ≡ (rows.cond_wait_of (view R.order k.old.tables) t c (Some condition) m (Some (seen look (waiters_in ((view R.order k.old.tables).mutexes m))))).reply }
 {
     if !look.holder.is_held_by(t) {
         return k.refuse(t, Errno::EPERM);
@@ -108,35 +109,38 @@ fn wait_and_release<R: Ready + Drop>(k: &mut Kernel<R>, t: Tid, c: u32, m: u32, 
     requires same { is_other m (cond_mutex ((view R.order k.old.tables).conditions c)) ≡ false }
     ensures { (condition : Condition) (mutex : Mutex) → (view R.order k.old.tables).conditions c ≡ Some condition
         → (view R.order k.old.tables).mutexes m ≡ Some mutex → count ≡ count_of mutex.holder
-        → IsNoted R.order k.old k.new (rows.wait_and_release (view R.order k.old.tables) t c condition m mutex).made }
+        → HasNotedSome R.order k.old k.new (rows.wait_and_release (view R.order k.old.tables) t c condition m mutex).outcome }
 {
-    k.note_more(Change::EnterCondition {
+    k.note_more(Change::Condition {
         cond: c,
-        thread: t,
-        mutex: m,
-    });
-    k.note_more(Change::Await {
-        thread: t,
-        wait: Wait::Cond {
-            cond: c,
+        change: ConditionChange::Enter {
+            thread: t,
             mutex: m,
-            deadline: None,
-            count,
         },
     });
-    hand_over(k, m);
+    let wait = Wait::Cond {
+        cond: c,
+        mutex: m,
+        deadline: None,
+        count,
+    };
+    k.note_more(Change::Thread {
+        thread: t,
+        change: ThreadChange::Await { wait },
+    });
+    k.hand_over(m);
 }
 
 /// Wakes the best waiter of a condition, if there is one, by POSIX.1 pthread_cond_signal.
 pub(crate) fn cond_signal<R: Ready + Drop>(k: &mut Kernel<R>, t: Tid, c: Arguments) -> Reply
     requires { CanBegin R.order k.old t }
-    ensures noted { IsNoted R.order k.old k.new (rows.cond_signal (view R.order k.old.tables) t c).made }
+    ensures noted { HasNotedSome R.order k.old k.new (rows.cond_signal (view R.order k.old.tables) t c).outcome }
     ensures reply { result ≡ (rows.cond_signal (view R.order k.old.tables) t c).reply }
 {
-    if !k.tables().has_condition(c.a) {
+    if !k.tables().has_condition(c.a0) {
         return k.refuse(t, Errno::EINVAL);
     }
-    signal(k, t, c.a);
+    signal(k, t, c.a0);
     Reply::Values(0, 0)
 }
 
@@ -145,7 +149,7 @@ fn signal<R: Ready + Drop>(k: &mut Kernel<R>, t: Tid, c: u32)
     requires ready { CanBegin R.order k.old t }
     requires exists { is_some ((view R.order k.old.tables).conditions c) ≡ true }
     ensures { (condition : Condition) → (view R.order k.old.tables).conditions c ≡ Some condition
-        → IsNoted R.order k.old k.new (values (rows.wake_one (begun (view R.order k.old.tables)) (next_woken (view R.order k.old.tables) condition)) t 0 0).made }
+        → HasNotedSome R.order k.old k.new (values (rows.wake_one (begun (view R.order k.old.tables)) (next_woken (view R.order k.old.tables) condition)) t 0 0).outcome }
 {
     match k.tables().next_woken(c) {
         None => k.note_one(t, answer(t)),
@@ -157,13 +161,12 @@ fn signal<R: Ready + Drop>(k: &mut Kernel<R>, t: Tid, c: u32)
 fn wake_best<R: Ready + Drop>(k: &mut Kernel<R>, t: Tid, c: u32, u: Tid)
     requires ready { CanBegin R.order k.old t }
     requires waits { is_in u (cond_waiters ((view R.order k.old.tables).conditions c)) ≡ true }
-    ensures { IsNoted R.order k.old k.new (values (wake (begun (view R.order k.old.tables)) u (Answer 0)) t 0 0).made }
+    ensures { HasNotedSome R.order k.old k.new (values (wake (begun (view R.order k.old.tables)) u (Answer 0)) t 0 0).outcome }
 {
     match k.tables().condition_mutex(c) {
         None => unreachable!(),
         Some(m) => {
-            let free = is_free_mutex(k, m);
-            wake(k, c, m, u, free);
+            k.wake(c, m, u, RetakeReply::Answer(0));
             k.note_more(answer(t));
         }
     }
@@ -172,13 +175,13 @@ fn wake_best<R: Ready + Drop>(k: &mut Kernel<R>, t: Tid, c: u32, u: Tid)
 /// Wakes all waiters of a condition, by POSIX.1 pthread_cond_broadcast.
 pub(crate) fn cond_broadcast<R: Ready + Drop>(k: &mut Kernel<R>, t: Tid, c: Arguments) -> Reply
     requires { CanBegin R.order k.old t }
-    ensures noted { IsNoted R.order k.old k.new (rows.cond_broadcast (view R.order k.old.tables) t c).made }
+    ensures noted { HasNotedSome R.order k.old k.new (rows.cond_broadcast (view R.order k.old.tables) t c).outcome }
     ensures reply { result ≡ (rows.cond_broadcast (view R.order k.old.tables) t c).reply }
 {
-    if !k.tables().has_condition(c.a) {
+    if !k.tables().has_condition(c.a0) {
         return k.refuse(t, Errno::EINVAL);
     }
-    broadcast(k, t, c.a);
+    broadcast(k, t, c.a0);
     Reply::Values(0, 0)
 }
 
@@ -187,7 +190,7 @@ fn broadcast<R: Ready + Drop>(k: &mut Kernel<R>, t: Tid, c: u32)
     requires ready { CanBegin R.order k.old t }
     requires exists { is_some ((view R.order k.old.tables).conditions c) ≡ true }
     ensures { (condition : Condition) → (view R.order k.old.tables).conditions c ≡ Some condition
-        → IsNoted R.order k.old k.new (values (wake_all (begun (view R.order k.old.tables)) (in_order (eff (view R.order k.old.tables)) condition.waiters)) t 0 0).made }
+        → HasNotedSome R.order k.old k.new (values (wake_all (begun (view R.order k.old.tables)) (in_order (eff (view R.order k.old.tables)) condition.waiters)) t 0 0).outcome }
 {
     match k.tables().condition_mutex(c) {
         None => k.note_one(t, answer(t)),
@@ -212,19 +215,16 @@ fn cond_waiter<R: Ready + Drop>(k: &Kernel<R>, c: u32, number: u32) -> Tid
     }
 }
 
-/// Notes that all waiters of a condition are woken in this order: the first gets the mutex where it is free, and the
-/// others wait for it. Each takes three small changes.
+/// Notes that all waiters of a condition are woken in this order. Each takes two small changes.
 fn wake_each<R: Ready + Drop>(k: &mut Kernel<R>, t: Tid, c: u32, m: u32, wake_order: &[u32])
     requires ready { CanBegin R.order k.old t }
     requires all { wake_order.now ≡ in_order (eff (view R.order k.old.tables)) (cond_waiters ((view R.order k.old.tables).conditions c)) }
     requires bound { cond_mutex ((view R.order k.old.tables).conditions c) ≡ Some m }
     ensures noted { HasNoted R.order k.old k.new (wake_all (begun (view R.order k.old.tables)) wake_order.now) }
-    ensures length { length k.new.rest.items ≤ 192 }
+    ensures length { length k.new.rest.noted.items ≤ 128 }
 {
-    let mut free = is_free_mutex(k, m);
     for number in wake_order {
         let u = cond_waiter(k, c, *number);
-        wake(k, c, m, u, free);
-        free = false;
+        k.wake(c, m, u, RetakeReply::Answer(0));
     }
 }

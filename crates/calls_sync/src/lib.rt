@@ -3,7 +3,6 @@
 
 mod beginning;
 mod conditions;
-mod hands;
 mod mutexes;
 #[cfg(test)]
 mod tests;

@@ -1,17 +1,16 @@
 ghost use Rattle.std.specs.Prelude.{◌≡◌, ◌<◌, ◌==◌, ◌&&◌, ◌||◌, true, Some, IsSome, IsNone};
 ghost use Rattle.thread_base.specs.Holders.{is_held_by, is_free, count_of};
+ghost use Rattle.thread_base.specs.Objects.{free_mutex, holder_in, waiters_in};
 ghost use Rattle.posix_model.specs.State.{Mutex};
 ghost use Rattle.posix_model.specs.Changes.{begun};
-ghost use Rattle.posix_model.specs.Mutexes.{holder_of, waiters_of, most_locks, set_mutex, hand, best_waiter};
+ghost use Rattle.posix_model.specs.Mutexes.{most_locks, set_mutex, hand, best_waiter};
 ghost use Rattle.posix_model.specs.MutexCalls as rows;
 ghost use Rattle.posix_model.specs.MutexCalls.{cannot_init, kind_by, checks, counts};
 ghost use Rattle.posix_model.specs.Replies.{values};
 ghost use Rattle.kernel_state.specs.View.{view, seen};
-ghost use Rattle.kernel_state.specs.Changing.{free_mutex};
-ghost use Rattle.kernel_state.specs.Begun.{CanBegin, IsNoted};
+ghost use Rattle.kernel_state.specs.Begun.{CanBegin, HasNotedSome};
 
-use crate::hands::hand_over;
-use kernel_state::{Change, Kernel};
+use kernel_state::{Change, Kernel, MutexChange, ThreadChange};
 use mutex_table::Look;
 use posix_model::{Arguments, Reply, Wait};
 use ready_queues::Ready;
@@ -27,7 +26,7 @@ const UNUSED: u32 = 0xffff_fffc;
 fn cannot_init(c: Arguments) -> bool
     ensures { result ≡ cannot_init c }
 {
-    c.a >= 256 || c.b & UNUSED != 0 || c.b % 4 == 3
+    c.a0 >= 256 || c.a1 & UNUSED != 0 || c.a1 % 4 == 3
 }
 
 /// The kind of a new mutex by its attributes.
@@ -71,13 +70,9 @@ fn is_open(look: &Look, t: Tid) -> bool
 
 /// The answer of a call that did what it was asked for and has no value.
 pub(crate) fn answer(t: Tid) -> Change
-    ensures { result ≡ Change.Reply t 0 0 }
+    ensures { result ≡ Change.Thread t (ThreadChange.Reply 0 0) }
 {
-    Change::Reply {
-        thread: t,
-        error: 0,
-        value: 0,
-    }
+    Change::reply(t, 0, 0)
 }
 
 /// Notes that a mutex has another holder, and that the caller is answered.
@@ -85,18 +80,19 @@ fn hold<R: Ready + Drop>(k: &mut Kernel<R>, t: Tid, m: u32, holder: Holder)
     requires ready { CanBegin R.order k.old t }
     requires exists { IsSome ((view R.order k.old.tables).mutexes m) }
     ensures { (mutex : Mutex) → (view R.order k.old.tables).mutexes m ≡ Some mutex
-        → IsNoted R.order k.old k.new (values (begun (set_mutex (view R.order k.old.tables) m (Some (record mutex { holder = holder })))) t 0 0).made }
+        → HasNotedSome R.order k.old k.new (values (begun (set_mutex (view R.order k.old.tables) m (Some (record mutex { holder = holder })))) t 0 0).outcome }
 {
-    k.note_two(t, Change::Hold { mutex: m, holder }, answer(t));
+    let change = MutexChange::Hold { holder };
+    k.note_two(t, Change::Mutex { mutex: m, change }, answer(t));
 }
 
 /// Notes that the caller has locked a mutex once more that it had so often.
 fn take<R: Ready + Drop>(k: &mut Kernel<R>, t: Tid, m: u32, count: u32)
     requires ready { CanBegin R.order k.old t }
     requires exists { IsSome ((view R.order k.old.tables).mutexes m) }
-    requires count { count ≡ count_of (holder_of (view R.order k.old.tables) m) }
+    requires count { count ≡ count_of (holder_in ((view R.order k.old.tables).mutexes m)) }
     ensures { (mutex : Mutex) → (view R.order k.old.tables).mutexes m ≡ Some mutex
-        → IsNoted R.order k.old k.new (rows.take (view R.order k.old.tables) t m mutex).made }
+        → HasNotedSome R.order k.old k.new (rows.take (view R.order k.old.tables) t m mutex).outcome }
 {
     hold(
         k,
@@ -114,17 +110,18 @@ fn queue<R: Ready + Drop>(k: &mut Kernel<R>, t: Tid, m: u32)
     requires ready { CanBegin R.order k.old t }
     requires exists { IsSome ((view R.order k.old.tables).mutexes m) }
     ensures { (mutex : Mutex) → (view R.order k.old.tables).mutexes m ≡ Some mutex
-        → IsNoted R.order k.old k.new (rows.queue (view R.order k.old.tables) t m mutex).made }
+        → HasNotedSome R.order k.old k.new (rows.queue (view R.order k.old.tables) t m mutex).outcome }
 {
+    let wait = Wait::Mutex(m);
     k.note_two(
         t,
-        Change::AddMutexWaiter {
+        Change::Mutex {
             mutex: m,
-            thread: t,
+            change: MutexChange::AddWaiter { thread: t },
         },
-        Change::Await {
+        Change::Thread {
             thread: t,
-            wait: Wait::Mutex(m),
+            change: ThreadChange::Await { wait },
         },
     );
 }
@@ -134,33 +131,26 @@ fn make<R: Ready + Drop>(k: &mut Kernel<R>, t: Tid, m: u32, kind: Kind)
     requires ready { CanBegin R.order k.old t }
     requires limit { m < 256 }
     requires fresh { IsNone ((view R.order k.old.tables).mutexes m) }
-    ensures { IsNoted R.order k.old k.new (values (begun (set_mutex (view R.order k.old.tables) m (Some (free_mutex kind Protocol.Plain)))) t 0 0).made }
+    ensures { HasNotedSome R.order k.old k.new (values (begun (set_mutex (view R.order k.old.tables) m (Some (free_mutex kind Protocol.Plain)))) t 0 0).outcome }
 {
     let protocol = Protocol::Plain;
-    k.note_two(
-        t,
-        Change::MakeMutex {
-            mutex: m,
-            kind,
-            protocol,
-        },
-        answer(t),
-    );
+    let change = MutexChange::Make { kind, protocol };
+    k.note_two(t, Change::Mutex { mutex: m, change }, answer(t));
 }
 
 /// Makes a mutex, by POSIX.1 pthread_mutex_init.
 pub(crate) fn init<R: Ready + Drop>(k: &mut Kernel<R>, t: Tid, c: Arguments) -> Reply
     requires { CanBegin R.order k.old t }
-    ensures noted { IsNoted R.order k.old k.new (rows.mutex_init (view R.order k.old.tables) t c).made }
+    ensures noted { HasNotedSome R.order k.old k.new (rows.mutex_init (view R.order k.old.tables) t c).outcome }
     ensures reply { result ≡ (rows.mutex_init (view R.order k.old.tables) t c).reply }
 {
     if cannot_init(c) {
         return k.refuse(t, Errno::EINVAL);
     }
-    match k.tables().mutex(c.a) {
+    match k.tables().mutex(c.a0) {
         Some(_) => k.refuse(t, Errno::EBUSY),
         None => {
-            make(k, t, c.a, kind_by(c.b));
+            make(k, t, c.a0, kind_by(c.a1));
             Reply::Values(0, 0)
         }
     }
@@ -169,47 +159,48 @@ pub(crate) fn init<R: Ready + Drop>(k: &mut Kernel<R>, t: Tid, c: Arguments) -> 
 /// Takes a free mutex away that no waiter of a condition uses, by POSIX.1 pthread_mutex_destroy.
 pub(crate) fn destroy<R: Ready + Drop>(k: &mut Kernel<R>, t: Tid, c: Arguments) -> Reply
     requires { CanBegin R.order k.old t }
-    ensures noted { IsNoted R.order k.old k.new (rows.mutex_destroy (view R.order k.old.tables) t c).made }
+    ensures noted { HasNotedSome R.order k.old k.new (rows.mutex_destroy (view R.order k.old.tables) t c).outcome }
     ensures reply { result ≡ (rows.mutex_destroy (view R.order k.old.tables) t c).reply }
 {
-    match k.tables().mutex(c.a) {
+    match k.tables().mutex(c.a0) {
         None => k.refuse(t, Errno::EINVAL),
-        Some(look) => destroy_mutex(k, t, c.a, look),
+        Some(look) => destroy_mutex(k, t, c.a0, look),
     }
 }
 
 /// Takes a mutex away, where it is free and no waiter of a condition uses it.
 fn destroy_mutex<R: Ready + Drop>(k: &mut Kernel<R>, t: Tid, m: u32, look: Look) -> Reply
     requires ready { CanBegin R.order k.old t }
-    requires found { (view R.order k.old.tables).mutexes m ≡ Some (seen look (waiters_of (view R.order k.old.tables) m)) }
-    ensures noted { IsNoted R.order k.old k.new (rows.destroy_of (view R.order k.old.tables) t m (Some (seen look (waiters_of (view R.order k.old.tables) m)))).made }
-    ensures reply { result ≡ (rows.destroy_of (view R.order k.old.tables) t m (Some (seen look (waiters_of (view R.order k.old.tables) m)))).reply }
+    requires found { (view R.order k.old.tables).mutexes m ≡ Some (seen look (waiters_in ((view R.order k.old.tables).mutexes m))) }
+    ensures noted { HasNotedSome R.order k.old k.new (rows.destroy_of (view R.order k.old.tables) t m (Some (seen look (waiters_in ((view R.order k.old.tables).mutexes m))))).outcome }
+    ensures reply { result ≡ (rows.destroy_of (view R.order k.old.tables) t m (Some (seen look (waiters_in ((view R.order k.old.tables).mutexes m))))).reply }
 {
     if !look.holder.is_free() || k.tables().is_used(m) {
         return k.refuse(t, Errno::EBUSY);
     }
-    k.note_two(t, Change::DestroyMutex { mutex: m }, answer(t));
+    let change = MutexChange::Destroy;
+    k.note_two(t, Change::Mutex { mutex: m, change }, answer(t));
     Reply::Values(0, 0)
 }
 
 /// Locks a mutex, or waits for it, by POSIX.1 pthread_mutex_lock.
 pub(crate) fn lock<R: Ready + Drop>(k: &mut Kernel<R>, t: Tid, c: Arguments) -> Reply
     requires { CanBegin R.order k.old t }
-    ensures noted { IsNoted R.order k.old k.new (rows.lock (view R.order k.old.tables) t c).made }
+    ensures noted { HasNotedSome R.order k.old k.new (rows.lock (view R.order k.old.tables) t c).outcome }
     ensures reply { result ≡ (rows.lock (view R.order k.old.tables) t c).reply }
 {
-    match k.tables().mutex(c.a) {
+    match k.tables().mutex(c.a0) {
         None => k.refuse(t, Errno::EINVAL),
-        Some(look) => lock_mutex(k, t, c.a, look),
+        Some(look) => lock_mutex(k, t, c.a0, look),
     }
 }
 
 /// Locks a mutex that is there, or waits for it.
 fn lock_mutex<R: Ready + Drop>(k: &mut Kernel<R>, t: Tid, m: u32, look: Look) -> Reply
     requires ready { CanBegin R.order k.old t }
-    requires found { (view R.order k.old.tables).mutexes m ≡ Some (seen look (waiters_of (view R.order k.old.tables) m)) }
-    ensures noted { IsNoted R.order k.old k.new (rows.lock_of (view R.order k.old.tables) t m (Some (seen look (waiters_of (view R.order k.old.tables) m)))).made }
-    ensures reply { result ≡ (rows.lock_of (view R.order k.old.tables) t m (Some (seen look (waiters_of (view R.order k.old.tables) m)))).reply }
+    requires found { (view R.order k.old.tables).mutexes m ≡ Some (seen look (waiters_in ((view R.order k.old.tables).mutexes m))) }
+    ensures noted { HasNotedSome R.order k.old k.new (rows.lock_of (view R.order k.old.tables) t m (Some (seen look (waiters_in ((view R.order k.old.tables).mutexes m))))).outcome }
+    ensures reply { result ≡ (rows.lock_of (view R.order k.old.tables) t m (Some (seen look (waiters_in ((view R.order k.old.tables).mutexes m))))).reply }
 {
     if is_checked(&look, t) {
         return k.refuse(t, Errno::EDEADLK);
@@ -228,21 +219,21 @@ fn lock_mutex<R: Ready + Drop>(k: &mut Kernel<R>, t: Tid, m: u32, look: Look) ->
 /// Locks a mutex where nobody has to wait, by POSIX.1 pthread_mutex_trylock.
 pub(crate) fn trylock<R: Ready + Drop>(k: &mut Kernel<R>, t: Tid, c: Arguments) -> Reply
     requires { CanBegin R.order k.old t }
-    ensures noted { IsNoted R.order k.old k.new (rows.trylock (view R.order k.old.tables) t c).made }
+    ensures noted { HasNotedSome R.order k.old k.new (rows.trylock (view R.order k.old.tables) t c).outcome }
     ensures reply { result ≡ (rows.trylock (view R.order k.old.tables) t c).reply }
 {
-    match k.tables().mutex(c.a) {
+    match k.tables().mutex(c.a0) {
         None => k.refuse(t, Errno::EINVAL),
-        Some(look) => trylock_mutex(k, t, c.a, look),
+        Some(look) => trylock_mutex(k, t, c.a0, look),
     }
 }
 
 /// Locks a mutex that is there, where nobody has to wait.
 fn trylock_mutex<R: Ready + Drop>(k: &mut Kernel<R>, t: Tid, m: u32, look: Look) -> Reply
     requires ready { CanBegin R.order k.old t }
-    requires found { (view R.order k.old.tables).mutexes m ≡ Some (seen look (waiters_of (view R.order k.old.tables) m)) }
-    ensures noted { IsNoted R.order k.old k.new (rows.trylock_of (view R.order k.old.tables) t m (Some (seen look (waiters_of (view R.order k.old.tables) m)))).made }
-    ensures reply { result ≡ (rows.trylock_of (view R.order k.old.tables) t m (Some (seen look (waiters_of (view R.order k.old.tables) m)))).reply }
+    requires found { (view R.order k.old.tables).mutexes m ≡ Some (seen look (waiters_in ((view R.order k.old.tables).mutexes m))) }
+    ensures noted { HasNotedSome R.order k.old k.new (rows.trylock_of (view R.order k.old.tables) t m (Some (seen look (waiters_in ((view R.order k.old.tables).mutexes m))))).outcome }
+    ensures reply { result ≡ (rows.trylock_of (view R.order k.old.tables) t m (Some (seen look (waiters_in ((view R.order k.old.tables).mutexes m))))).reply }
 {
     if is_full(&look, t) {
         return k.refuse(t, Errno::EAGAIN);
@@ -257,21 +248,21 @@ fn trylock_mutex<R: Ready + Drop>(k: &mut Kernel<R>, t: Tid, m: u32, look: Look)
 /// Unlocks a mutex that the caller has, by POSIX.1 pthread_mutex_unlock.
 pub(crate) fn unlock<R: Ready + Drop>(k: &mut Kernel<R>, t: Tid, c: Arguments) -> Reply
     requires { CanBegin R.order k.old t }
-    ensures noted { IsNoted R.order k.old k.new (rows.unlock (view R.order k.old.tables) t c).made }
+    ensures noted { HasNotedSome R.order k.old k.new (rows.unlock (view R.order k.old.tables) t c).outcome }
     ensures reply { result ≡ (rows.unlock (view R.order k.old.tables) t c).reply }
 {
-    match k.tables().mutex(c.a) {
+    match k.tables().mutex(c.a0) {
         None => k.refuse(t, Errno::EINVAL),
-        Some(look) => unlock_mutex(k, t, c.a, look),
+        Some(look) => unlock_mutex(k, t, c.a0, look),
     }
 }
 
 /// Unlocks a mutex that is there.
 fn unlock_mutex<R: Ready + Drop>(k: &mut Kernel<R>, t: Tid, m: u32, look: Look) -> Reply
     requires ready { CanBegin R.order k.old t }
-    requires found { (view R.order k.old.tables).mutexes m ≡ Some (seen look (waiters_of (view R.order k.old.tables) m)) }
-    ensures noted { IsNoted R.order k.old k.new (rows.unlock_of (view R.order k.old.tables) t m (Some (seen look (waiters_of (view R.order k.old.tables) m)))).made }
-    ensures reply { result ≡ (rows.unlock_of (view R.order k.old.tables) t m (Some (seen look (waiters_of (view R.order k.old.tables) m)))).reply }
+    requires found { (view R.order k.old.tables).mutexes m ≡ Some (seen look (waiters_in ((view R.order k.old.tables).mutexes m))) }
+    ensures noted { HasNotedSome R.order k.old k.new (rows.unlock_of (view R.order k.old.tables) t m (Some (seen look (waiters_in ((view R.order k.old.tables).mutexes m))))).outcome }
+    ensures reply { result ≡ (rows.unlock_of (view R.order k.old.tables) t m (Some (seen look (waiters_in ((view R.order k.old.tables).mutexes m))))).reply }
 {
     if !look.holder.is_held_by(t) {
         return k.refuse(t, Errno::EPERM);
@@ -284,10 +275,10 @@ fn unlock_mutex<R: Ready + Drop>(k: &mut Kernel<R>, t: Tid, m: u32, look: Look) 
 /// over.
 fn release<R: Ready + Drop>(k: &mut Kernel<R>, t: Tid, m: u32, count: u32)
     requires ready { CanBegin R.order k.old t }
-    requires count { count ≡ count_of (holder_of (view R.order k.old.tables) m) }
-    requires held { is_held_by (holder_of (view R.order k.old.tables) m) t ≡ true }
+    requires count { count ≡ count_of (holder_in ((view R.order k.old.tables).mutexes m)) }
+    requires held { is_held_by (holder_in ((view R.order k.old.tables).mutexes m)) t ≡ true }
     ensures { (mutex : Mutex) → (view R.order k.old.tables).mutexes m ≡ Some mutex
-        → IsNoted R.order k.old k.new (values (rows.released (view R.order k.old.tables) t m mutex) t 0 0).made }
+        → HasNotedSome R.order k.old k.new (values (rows.released (view R.order k.old.tables) t m mutex) t 0 0).outcome }
 {
     if count == 1 {
         hand_and_answer(k, t, m);
@@ -309,8 +300,8 @@ fn hand_and_answer<R: Ready + Drop>(k: &mut Kernel<R>, t: Tid, m: u32)
     requires ready { CanBegin R.order k.old t }
     requires exists { IsSome ((view R.order k.old.tables).mutexes m) }
     ensures { (mutex : Mutex) → (view R.order k.old.tables).mutexes m ≡ Some mutex
-        → IsNoted R.order k.old k.new (values (hand (begun (view R.order k.old.tables)) m mutex (best_waiter (view R.order k.old.tables) mutex)) t 0 0).made }
+        → HasNotedSome R.order k.old k.new (values (hand (begun (view R.order k.old.tables)) m mutex (best_waiter (view R.order k.old.tables) mutex)) t 0 0).outcome }
 {
-    hand_over(k, m);
+    k.hand_over(m);
     k.note_more(answer(t));
 }

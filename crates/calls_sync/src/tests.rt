@@ -2,7 +2,7 @@
 
 ghost use Rattle.std.specs.Prelude.{◌≡◌, [], true, IfOk};
 ghost use Rattle.kernel_state.specs.Begun.{CanBegin};
-ghost use Rattle.calls_sync.specs.Numbers.{is_sync_call};
+ghost use Rattle.thread_base.specs.Numbers.{family_of};
 
 use crate::{begin, step};
 use elf_image::EntryPoint;
@@ -12,7 +12,7 @@ use ready_queues::{PlainReady, Ready};
 use rv_exec::Memory;
 use std::alloc::Global;
 use std::test::Fail;
-use thread_base::{CallNo, NoMemory, Tid};
+use thread_base::{CallNo, Family, NoMemory, Tid};
 
 /// A kernel at the start of a run over 65,536 bytes.
 fn start<R: Ready + Drop>(alloc: Global, ready: R) -> Result<Kernel<R>, NoMemory>
@@ -35,7 +35,7 @@ fn call<R: Ready + Drop>(
     args: [u32; 4],
 ) -> Result<(Option<Reply>, u32), NoMemory>
     requires empty { R.order ready ≡ [] }
-    requires here { is_sync_call number ≡ true }
+    requires here { family_of number ≡ Family.Sync }
 {
     let mut k = start(alloc, ready)?;
     let Some(number) = CallNo::new(number) else {
@@ -62,8 +62,8 @@ fn reply_of(report: &Report) -> Option<Reply> {
 #[test]
 fn calls_where_no_mutex_is(rt: HostRuntime) -> Result<(), Fail> {
     let alloc = rt.alloc();
-    let made = call(alloc, PlainReady::new(alloc)?, 274, [255, 2, 0, 0])?;
-    assert_eq!(rt; made, (Some(Reply::Values(0, 0)), 2));
+    let outcome = call(alloc, PlainReady::new(alloc)?, 274, [255, 2, 0, 0])?;
+    assert_eq!(rt; outcome, (Some(Reply::Values(0, 0)), 2));
     let above = call(alloc, PlainReady::new(alloc)?, 274, [256, 0, 0, 0])?;
     assert_eq!(rt; above, (Some(Reply::Values(22, 0)), 1));
     let inherits = call(alloc, PlainReady::new(alloc)?, 274, [0, 16, 0, 0])?;
@@ -82,8 +82,8 @@ fn calls_where_no_mutex_is(rt: HostRuntime) -> Result<(), Fail> {
 #[test]
 fn calls_where_no_condition_is(rt: HostRuntime) -> Result<(), Fail> {
     let alloc = rt.alloc();
-    let made = call(alloc, PlainReady::new(alloc)?, 280, [255, 0, 0, 0])?;
-    assert_eq!(rt; made, (Some(Reply::Values(0, 0)), 2));
+    let outcome = call(alloc, PlainReady::new(alloc)?, 280, [255, 0, 0, 0])?;
+    assert_eq!(rt; outcome, (Some(Reply::Values(0, 0)), 2));
     let above = call(alloc, PlainReady::new(alloc)?, 280, [256, 0, 0, 0])?;
     assert_eq!(rt; above, (Some(Reply::Values(22, 0)), 1));
     let destroyed = call(alloc, PlainReady::new(alloc)?, 281, [0; 4])?;

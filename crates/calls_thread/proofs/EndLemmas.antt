@@ -5,19 +5,20 @@ use Rattle.thread_base.proofs.MapLemmas.{put_other}
 use Rattle.thread_base.proofs.OrderLemmas.{is_in-push}
 use Rattle.thread_base.proofs.SearchLemmas.{find_passes}
 use Rattle.posix_model.specs.State.{State, Thread, none_pending, is_ready, joins}
-use Rattle.posix_model.specs.Changes.{Made, begun, answer, with_reply}
+use Rattle.posix_model.specs.Changes.{Outcome, begun, answer, with_reply}
 use Rattle.posix_model.specs.Threads.{joiner}
-use Rattle.posix_model.specs.Leaving.{ended, end_of_thread, end_with, left_at, over_with_last, without_thread, with_end}
+use Rattle.posix_model.specs.Leaving.{ended, end_of_thread, end_with, remains, over_with_last, without_thread, with_end}
 use Rattle.posix_model.specs.Good.{IsGood}
 use Rattle.posix_model.proofs.StandingLemmas.{joins_waits}
 use Rattle.kernel_state.specs.Changing.{Can, change_by, IsListed}
-use Rattle.kernel_state.specs.declared.change.Change.TheVariants.{Answer, End}
+use Rattle.kernel_state.specs.declared.change.Change.TheVariants.{Thread as OfThread}
+use Rattle.kernel_state.specs.declared.change.ThreadChange.TheVariants.{Answer, End}
 use Rattle.calls_thread.specs.Orphans.{with_orphans}
 use Rattle.calls_thread.proofs.StayLemmas.{there_append, ended_apart}
 use Rattle.calls_thread.proofs.OrphanLemmas.{none_left, orphaned_twice}
 
 -- an end behind the orphans is the end
-ended_orphans : (g : Made) (t : ℕ) (left : Thread) (dropped : ℕ → ℕ) (value : ℕ)
+ended_orphans : (g : Outcome) (t : ℕ) (left : Thread) (dropped : ℕ → ℕ) (value : ℕ)
     → ended (record g { state = with_orphans g.state t }) t left dropped value ≡ ended g t left dropped value
 ended_orphans g t left dropped value = λ i. record {
   state = over_with_last (record (without_thread g.state t left) { mutexes = orphaned_twice t g.state.mutexes i });
@@ -25,25 +26,25 @@ ended_orphans g t left dropped value = λ i. record {
 }
 
 module _ (s : State) (t value : ℕ) where
-  pub ended_alone : joiner s t ≡ None → change_by (End t value false) (begun (with_orphans s t)) ≡ end_of_thread s t value
-  ended_alone none = ended_orphans (begun s) t (left_at (s.threads t) value None) (s.pending t) value ∙ ap (end_with s t value) (sym none)
+  pub ended_alone : joiner s t ≡ None → change_by (OfThread t (End value false)) (begun (with_orphans s t)) ≡ end_of_thread s t value
+  ended_alone none = ended_orphans (begun s) t (remains (s.threads t) value None) (s.pending t) value ∙ ap (end_with s t value) (sym none)
 
-  pub can_end_alone : IsListed s t → s.pending ≡ none_pending → Can (End t value false) (begun (with_orphans s t))
+  pub can_end_alone : IsListed s t → s.pending ≡ none_pending → Can (OfThread t (End value false)) (begun (with_orphans s t))
   can_end_alone listed calm = (listed, calm, none_left s t)
 
 module _ (s : State) (t u value : ℕ) (good : IsGood s) (listed : IsListed s t) (found : joiner s t ≡ Some u) where
   joins_it : joins t (s.threads u).standing ≡ true
   joins_it = find_passes (λ v. joins t (s.threads v).standing) tids u found
 
-  pub can_answer : Can (Answer u 0 value) (begun (with_orphans s t))
+  pub can_answer : Can (OfThread u (Answer 0 value)) (begun (with_orphans s t))
   can_answer =
       let waits = joins_waits t (s.threads u).standing joins_it in
-      (ap not waits.1, good.listed u ∙ waits.0, waits.2)
+      (good.ready.listed u ∙ waits.0, waits.2)
 
   apart : t ≢ u
   apart = ended_apart s t u listed.2 (joins_waits t (s.threads u).standing joins_it).0
 
-  pub can_end : s.pending ≡ none_pending → Can (End t value true) (change_by (Answer u 0 value) (begun (with_orphans s t)))
+  pub can_end : s.pending ≡ none_pending → Can (OfThread t (End value true)) (change_by (OfThread u (Answer 0 value)) (begun (with_orphans s t)))
   can_end calm = (
     (
       there_append s t u (with_reply (s.threads u) 0 value) listed.0,
@@ -54,7 +55,7 @@ module _ (s : State) (t u value : ℕ) (good : IsGood s) (listed : IsListed s t)
     none_left s t,
   )
 
-  pub ended_joined : change_by (End t value true) (change_by (Answer u 0 value) (begun (with_orphans s t))) ≡ end_of_thread s t value
+  pub ended_joined : change_by (OfThread t (End value true)) (change_by (OfThread u (Answer 0 value)) (begun (with_orphans s t))) ≡ end_of_thread s t value
   ended_joined =
-      let left : Thread = left_at (s.threads t) value (Some u) in
+      let left : Thread = remains (s.threads t) value (Some u) in
       ended_orphans (answer (begun s) u 0 value) t left (s.pending t) value ∙ ap (end_with s t value) (sym found)

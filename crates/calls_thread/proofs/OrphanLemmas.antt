@@ -10,13 +10,17 @@ use Rattle.thread_base.proofs.MapLemmas.{put_same, put_other}
 use Rattle.thread_base.proofs.SearchLemmas.{find_passes, find_member, find_lowest, range_in}
 use Rattle.posix_model.specs.State.{State, Mutex}
 use Rattle.posix_model.specs.Changes.{begun}
-use Rattle.posix_model.specs.Mutexes.{holder_in, holder_of, orphan_in, orphaned}
-use Rattle.kernel_state.specs.View.{view, made}
-use Rattle.kernel_state.specs.Changing.{Can, held_anew, HasNoMutex, owed, AllCan}
+use Rattle.posix_model.specs.Mutexes.{orphan_in, orphaned}
+use Rattle.thread_base.specs.Objects.{holder_in, with_holder}
+use Rattle.kernel_state.specs.View.{view}
+use Rattle.kernel_state.specs.Changing.{Can, HasNoMutex}
 use Rattle.kernel_state.specs.Begun.{CanBegin, HasNoted, NotesMore}
-use Rattle.kernel_state.specs.declared.change.Change.TheVariants.{Hold}
+use Rattle.kernel_state.specs.declared.change.Change.{Change}
+use Rattle.kernel_state.specs.declared.change.Change.TheVariants.{Mutex as OfMutex}
+use Rattle.kernel_state.specs.declared.change.MutexChange.TheVariants.{Hold}
 use Rattle.kernel_state.specs.declared.kernel.Kernel.{Kernel}
 use Rattle.kernel_state.specs.declared.tables.Tables.{Tables}
+use Rattle.kernel_state.proofs.NoteLemmas.{noted_none as noted_first}
 use Rattle.calls_thread.specs.Orphans.{with_orphans}
 
 -- a mutex that the thread does not have stays, and one that it has is an orphan
@@ -24,7 +28,7 @@ orphan_free : (t : ℕ) (o : Option Mutex) → is_held_by (holder_in o) t ≡ fa
 orphan_free t None h = refl
 orphan_free t (Some mutex) h = ap (λ b. Some (if b then record mutex { holder = Orphan } else mutex)) h
 
-orphan_held : (t : ℕ) (o : Option Mutex) → is_held_by (holder_in o) t ≡ true → held_anew Orphan o ≡ orphan_in t o
+orphan_held : (t : ℕ) (o : Option Mutex) → is_held_by (holder_in o) t ≡ true → with_holder Orphan o ≡ orphan_in t o
 orphan_held t None h = absurd (let e : false ≡ true = h in cc)
 orphan_held t (Some mutex) h = ap (λ b. Some (if b then record mutex { holder = Orphan } else mutex)) (sym h)
 
@@ -56,11 +60,11 @@ pub record AreBelow (s : State) (t from : ℕ) (mutexes : ℕ → Option Mutex) 
 abbrev pub HasNotedBelow : {R : Type 0} → (R → List ℕ) → Kernel R → Kernel R → ℕ → ℕ → Type 0
 HasNotedBelow order k q t from =
     (mutexes : ℕ → Option Mutex) × AreBelow (view order k.tables) t from mutexes × HasNoted order k q (begun (record (view order k.tables) { mutexes = mutexes }))
-    × (from ≤ 256) × (length q.rest.items ≤ from)
+    × (from ≤ 256) × (length q.rest.noted.items ≤ from)
 
-module _ (s : State) (t from m : ℕ) (least : from ≤ 256) (found : find (λ k. is_held_by (holder_of s k) t) (range_with_len from (256 - from)) ≡ Some m) where
+module _ (s : State) (t from m : ℕ) (least : from ≤ 256) (found : find (λ k. is_held_by (holder_in (s.mutexes k)) t) (range_with_len from (256 - from)) ≡ Some m) where
   abbrev has : ℕ → Bool
-  has k = is_held_by (holder_of s k) t
+  has k = is_held_by (holder_in (s.mutexes k)) t
 
   pub owned_within : (from ≤ m) × (m < 256)
   owned_within =
@@ -72,42 +76,37 @@ module _ (s : State) (t from m : ℕ) (least : from ≤ 256) (found : find (λ k
 
   module _ (mutexes : ℕ → Option Mutex) (below : AreBelow s t from mutexes) where
     abbrev next : ℕ → Option Mutex
-    next = put mutexes m (held_anew Orphan (mutexes m))
+    next = put mutexes m (with_holder Orphan (mutexes m))
 
     below_more : AreBelow s t (m + 1) next
     below_more = record {
       done = λ k low. elim (cases_lt k m) [
         | inl lt ↦
-            put_other mutexes m (held_anew Orphan (mutexes m)) k (λ e. omega (arith, lt, e))
+            put_other mutexes m (with_holder Orphan (mutexes m)) k (λ e. omega (arith, lt, e))
             ∙ elim (cases_lt k from) [
               | inl before ↦ below.done k before
               | inr after ↦ below.left k after ∙ sym (orphan_free t (s.mutexes k) (find_lowest has from (256 - from) m k found after lt))
             ]
         | inr ge ↦
             (let same : k ≡ m = omega (arith, ge, low) in
-            ap next same ∙ put_same mutexes m (held_anew Orphan (mutexes m)) ∙ ap (held_anew Orphan) (below.left m owned_within.0)
+            ap next same ∙ put_same mutexes m (with_holder Orphan (mutexes m)) ∙ ap (with_holder Orphan) (below.left m owned_within.0)
             ∙ orphan_held t (s.mutexes m) owned ∙ ap (λ n. orphan_in t (s.mutexes n)) (sym same))
       ];
       left = λ k high.
           (let at = owned_within.0 in
-          put_other mutexes m (held_anew Orphan (mutexes m)) k (λ e. omega (arith, e, high)) ∙ below.left k (omega (arith, high, at)));
+          put_other mutexes m (with_holder Orphan (mutexes m)) k (λ e. omega (arith, e, high)) ∙ below.left k (omega (arith, high, at)));
     }
 
-    can_orphan : Can (Hold m Orphan) (begun (record s { mutexes = mutexes }))
+    can_orphan : Can (OfMutex m (Hold Orphan)) (begun (record s { mutexes = mutexes }))
     can_orphan = ap is_some (below.left m owned_within.0) ∙ held_some t (s.mutexes m) owned
 
 module _ {R : Type 0} (order : R → List ℕ) (k : Kernel R) (t : ℕ) where
   pub noted_none : CanBegin order k t → HasNotedBelow order k k t 0
-  unfolding made
   noted_none ready =
-      let none : length k.rest.items ≡ 0 = ap length ready.idle in (
+      let none : length k.rest.noted.items ≡ 0 = ap (length {A = Change}) ready.idle.none in (
         (view order k.tables).mutexes,
         record { done = λ m low. absurd (omega (arith, low)); left = λ m high. refl },
-        record {
-          owed = ap (owed (made order k.tables)) ready.idle ∙ (λ i. record { state = view order k.tables; report = ready.untold i });
-          can = subst (λ xs. AllCan (made order k.tables) xs) (sym ready.idle) tt;
-          others = refl;
-        },
+        noted_first order k ready.idle ready.untold,
         omega arith,
         omega (arith, none),
       )
@@ -116,23 +115,23 @@ module _ {R : Type 0} (order : R → List ℕ) (k : Kernel R) (t : ℕ) where
     stays : tables ≡ k.tables
     stays = same ∙ ap (λ (x : Kernel _). x.tables) before.2.others
 
-    module _ (m : ℕ) (least : o ≡ find (λ n. is_held_by (holder_of (view order tables) n) t) (range_with_len from (256 - from))) (is : o ≡ Some m) where
-      pub found_still : find (λ n. is_held_by (holder_of (view order k.tables) n) t) (range_with_len from (256 - from)) ≡ Some m
-      found_still = sym (least ∙ ap (λ (x : Tables _). find (λ n. is_held_by (holder_of (view order x) n) t) (range_with_len from (256 - from))) stays) ∙ is
+    module _ (m : ℕ) (least : o ≡ find (λ n. is_held_by (holder_in ((view order tables).mutexes n)) t) (range_with_len from (256 - from))) (is : o ≡ Some m) where
+      pub found_still : find (λ n. is_held_by (holder_in ((view order k.tables).mutexes n)) t) (range_with_len from (256 - from)) ≡ Some m
+      found_still = sym (least ∙ ap (λ (x : Tables _). find (λ n. is_held_by (holder_in ((view order x).mutexes n)) t) (range_with_len from (256 - from))) stays) ∙ is
 
       pub within_still : (from ≤ m) × (m < 256)
       within_still = owned_within (view order k.tables) t from m before.3 found_still
 
-    pub none_still : IfNone o ((m : ℕ) → from ≤ m → is_held_by (holder_of (view order tables) m) t ≡ false) → o ≡ None
-        → (m : ℕ) → from ≤ m → is_held_by (holder_of (view order k.tables) m) t ≡ false
+    pub none_still : IfNone o ((m : ℕ) → from ≤ m → is_held_by (holder_in ((view order tables).mutexes m)) t ≡ false) → o ≡ None
+        → (m : ℕ) → from ≤ m → is_held_by (holder_in ((view order k.tables).mutexes m)) t ≡ false
     none_still none is =
-        let left = subst (λ x. IfNone x ((m : ℕ) → from ≤ m → is_held_by (holder_of (view order tables) m) t ≡ false)) is none in
-        λ m high. ap (λ (x : Tables _). is_held_by (holder_of (view order x) m) t) (sym stays) ∙ left m high
+        let left = subst (λ x. IfNone x ((m : ℕ) → from ≤ m → is_held_by (holder_in ((view order tables).mutexes m)) t ≡ false)) is none in
+        λ m high. ap (λ (x : Tables _). is_held_by (holder_in ((view order x).mutexes m)) t) (sym stays) ∙ left m high
 
   -- one mutex more
   pub noted_below : (q r : Kernel R) (from m : ℕ) → HasNotedBelow order k q t from
-      → find (λ n. is_held_by (holder_of (view order k.tables) n) t) (range_with_len from (256 - from)) ≡ Some m
-      → NotesMore order q r (Hold m Orphan) → length r.rest.items ≡ length q.rest.items + 1 → HasNotedBelow order k r t (m + 1)
+      → find (λ n. is_held_by (holder_in ((view order k.tables).mutexes n)) t) (range_with_len from (256 - from)) ≡ Some m
+      → NotesMore order q r (OfMutex m (Hold Orphan)) → length r.rest.noted.items ≡ length q.rest.noted.items + 1 → HasNotedBelow order k r t (m + 1)
   noted_below q r from m before found more count =
       let s = view order k.tables in
       let range = owned_within s t from m before.3 found in
@@ -140,15 +139,15 @@ module _ {R : Type 0} (order : R → List ℕ) (k : Kernel R) (t : ℕ) where
       let low = range.0 in
       let high = range.1 in
       let few = before.4 in (
-        put before.0 m (held_anew Orphan (before.0 m)),
+        put before.0 m (with_holder Orphan (before.0 m)),
         below_more s t from m before.3 found before.0 before.1,
-        record { owed = noted.owed; can = noted.can; others = noted.others },
+        noted.so_far,
         omega (arith, high),
         omega (arith, low, few, count),
       )
 
   -- and then none is left
-  pub noted_all : (q : Kernel R) (from : ℕ) → HasNotedBelow order k q t from → ((m : ℕ) → from ≤ m → is_held_by (holder_of (view order k.tables) m) t ≡ false)
+  pub noted_all : (q : Kernel R) (from : ℕ) → HasNotedBelow order k q t from → ((m : ℕ) → from ≤ m → is_held_by (holder_in ((view order k.tables).mutexes m)) t ≡ false)
       → HasNoted order k q (begun (with_orphans (view order k.tables) t))
   noted_all q from before none =
       let s = view order k.tables in

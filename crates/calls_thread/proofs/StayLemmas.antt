@@ -8,8 +8,12 @@ use Rattle.thread_base.specs.Priority.{tids}
 use Rattle.thread_base.proofs.SearchLemmas.{find_passes}
 use Rattle.posix_model.specs.State.{State, Thread, Standing, Absent, Ready, Waits, Ended, is_absent, is_ready}
 use Rattle.posix_model.specs.Good.{IsGood}
-use Rattle.posix_model.specs.Changes.{to_end, append, set_thread}
+use Rattle.posix_model.specs.Changes.{Outcome, to_end, append, set_thread}
 use Rattle.posix_model.specs.Threads.{exists, free_number}
+use Rattle.kernel_state.specs.Changing.{Can}
+use Rattle.kernel_state.specs.declared.change.Change.{Change}
+use Rattle.kernel_state.specs.declared.change.Change.TheVariants.{Thread as OfThread}
+use Rattle.kernel_state.specs.declared.change.ThreadChange.TheVariants.{Reply}
 
 -- a thread whose record is not that of none is there
 there_put : (m : ℕ → Thread) (t : ℕ) (thread : Thread) → not (is_absent thread.standing) ≡ true → not (is_absent (put m t thread t).standing) ≡ true
@@ -49,8 +53,12 @@ absent_idle (Ended value) h = refl
 -- a number that is free is not ready
 pub free_away : (s : State) (u : ℕ) → IsGood s → free_number s ≡ Some u → is_in u s.ready ≡ false
 free_away s u good e =
-    good.listed u ∙ absent_idle (s.threads u).standing (find_passes (λ t. is_absent (s.threads t).standing) tids u e)
+    good.ready.listed u ∙ absent_idle (s.threads u).standing (find_passes (λ t. is_absent (s.threads t).standing) tids u e)
 
 -- a thread that is ready and one that has ended are two
 pub ended_apart : (s : State) (t u : ℕ) → is_ready (s.threads t).standing ≡ true → is_ready (s.threads u).standing ≡ false → t ≢ u
 ended_apart s t u h k e = let f : true ≡ false = sym h ∙ ap (λ v. is_ready (s.threads v).standing) e ∙ k in absurd (let x : false ≡ true = sym f in cc)
+
+-- a caller that is there can be answered
+pub can_reply : (x : Change) (t error value : ℕ) (g : Outcome) → x ≡ OfThread t (Reply error value) → exists g.state t ≡ true → Can x g
+can_reply x t error value g same h = subst (λ y. Can y g) (sym same) h

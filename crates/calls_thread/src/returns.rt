@@ -1,13 +1,13 @@
-ghost use Rattle.std.specs.Prelude.{◌≤◌, length, slice_index};
+ghost use Rattle.std.specs.Prelude.{◌≡◌, ◌≤◌, length, slice_index};
 ghost use Rattle.posix_model.specs.Changes.{begun};
 ghost use Rattle.posix_model.specs.Deliveries.{faulted};
 ghost use Rattle.posix_model.specs.Instructions.{returned};
 ghost use Rattle.posix_model.specs.Leaving.{end_of_thread, start_exit};
 ghost use Rattle.kernel_state.specs.View.{view};
-ghost use Rattle.kernel_state.specs.Begun.{CanBegin, HasNoted, IsNoted, IsBegun};
+ghost use Rattle.kernel_state.specs.Begun.{CanBegin, HasNoted, HasNotedSome, IsBegun};
 ghost use Rattle.calls_thread.specs.Orphans.{with_orphans};
 
-use kernel_state::{Change, Kernel};
+use kernel_state::{Change, Kernel, MutexChange, SignalChange, ThreadChange};
 use posix_model::Head;
 use ready_queues::Ready;
 use rv_exec::Special;
@@ -23,26 +23,45 @@ pub fn begin_fault<R: Ready + Drop>(k: &mut Kernel<R>, t: Tid, s: Sig)
 {
     k.note_one(
         t,
-        Change::Pend {
+        Change::Signal {
             thread: t,
             signal: s,
+            change: SignalChange::Pend,
         },
     );
     k.note_head(t, Head::Fault(s));
+}
+
+/// A mutex is an orphan; its waiters stay.
+fn orphaned(m: u32) -> Change
+    ensures { result ≡ Change.Mutex m (MutexChange.Hold Holder.Orphan) }
+{
+    let holder = Holder::Orphan;
+    Change::Mutex {
+        mutex: m,
+        change: MutexChange::Hold { holder },
+    }
+}
+
+/// A thread ends with a value, which its joiner has got, where it was joined.
+fn ended(t: Tid, value: u32, joined: bool) -> Change
+    ensures { result ≡ Change.Thread t (ThreadChange.End value joined) }
+{
+    Change::Thread {
+        thread: t,
+        change: ThreadChange::End { value, joined },
+    }
 }
 
 /// Notes that each mutex that a thread has is an orphan; these are 256 small changes at most.
 fn note_orphans<R: Ready + Drop>(k: &mut Kernel<R>, t: Tid)
     requires { CanBegin R.order k.old t }
     ensures noted { HasNoted R.order k.old k.new (begun (with_orphans (view R.order k.old.tables) t)) }
-    ensures count { length k.new.rest.items ≤ 256 }
+    ensures count { length k.new.rest.noted.items ≤ 256 }
 {
     let mut from = 0;
     while let Some(m) = k.tables().next_owned(t, from) {
-        k.note_more(Change::Hold {
-            mutex: m,
-            holder: Holder::Orphan,
-        });
+        k.note_more(orphaned(m));
         from = m + 1;
     }
 }
@@ -50,27 +69,16 @@ fn note_orphans<R: Ready + Drop>(k: &mut Kernel<R>, t: Tid)
 /// Notes the end of a thread: its mutexes are orphans, its joiner is answered, and then it is gone.
 fn note_end<R: Ready + Drop>(k: &mut Kernel<R>, t: Tid, value: u32)
     requires { CanBegin R.order k.old t }
-    ensures { IsNoted R.order k.old k.new (end_of_thread (view R.order k.old.tables) t value) }
+    ensures { HasNotedSome R.order k.old k.new (end_of_thread (view R.order k.old.tables) t value) }
 {
     let joiner = k.tables().joiner(t);
     note_orphans(k, t);
     match joiner {
-        None => k.note_more(Change::End {
-            thread: t,
-            value,
-            joined: false,
-        }),
+        None => k.note_more(ended(t, value, false)),
         Some(u) => {
-            k.note_more(Change::Answer {
-                thread: u,
-                error: 0,
-                value,
-            });
-            k.note_more(Change::End {
-                thread: t,
-                value,
-                joined: true,
-            });
+            let change = ThreadChange::Answer { error: 0, value };
+            k.note_more(Change::Thread { thread: u, change });
+            k.note_more(ended(t, value, true));
         }
     }
 }
@@ -78,10 +86,11 @@ fn note_end<R: Ready + Drop>(k: &mut Kernel<R>, t: Tid, value: u32)
 /// Notes the start of a thread's exit with the value in a0.
 fn note_exit<R: Ready + Drop>(k: &mut Kernel<R>, t: Tid)
     requires { CanBegin R.order k.old t }
-    ensures { IsNoted R.order k.old k.new (begun (start_exit (view R.order k.old.tables) t (slice_index ((view R.order k.old.tables).threads t).registers.x 10))) }
+    ensures { HasNotedSome R.order k.old k.new (begun (start_exit (view R.order k.old.tables) t (slice_index ((view R.order k.old.tables).threads t).registers.x 10))) }
 {
-    let value = k.tables().there(t).regs.x[10];
-    k.note_one(t, Change::StartExit { thread: t, value });
+    let value = k.tables().known(t).regs.x[10];
+    let change = ThreadChange::StartExit { value };
+    k.note_one(t, Change::Thread { thread: t, change });
 }
 
 /// Begins a special return of a thread that is ready, or the fault with SIGSEGV where it is not due.
@@ -89,7 +98,7 @@ pub fn begin_return<R: Ready + Drop>(k: &mut Kernel<R>, t: Tid, which: Special)
     requires { CanBegin R.order k.old t }
     ensures { IsBegun R.order k.old k.new (returned (view R.order k.old.tables) t which ((view R.order k.old.tables).threads t).phase) }
 {
-    let leaving = k.tables().there(t).life.leaving;
+    let leaving = k.tables().known(t).activity.leaving;
     match which {
         Special::Handler => begin_fault(k, t, Sig::of(SIGSEGV)),
         Special::Cleanup => match leaving {

@@ -3,50 +3,39 @@ ghost use Rattle.posix_model.specs.State.{Thread};
 ghost use Rattle.posix_model.specs.Threads.{exists, free_number, new_thread};
 ghost use Rattle.kernel_state.specs.Changing.{begun_thread};
 ghost use Rattle.posix_model.specs.Calls as calls;
-ghost use Rattle.posix_model.specs.Calls.{cannot_start, values};
+ghost use Rattle.posix_model.specs.Calls.{cannot_start, values, row_of, thread_calls};
 ghost use Rattle.posix_model.specs.Changes.{begun};
 ghost use Rattle.kernel_state.specs.View.{view};
-ghost use Rattle.calls_thread.specs.Numbers.{is_thread_call};
-ghost use Rattle.kernel_state.specs.Begun.{CanBegin, IsNoted};
+ghost use Rattle.kernel_state.specs.Begun.{CanBegin, HasNotedSome};
 
-use kernel_state::{Beginning, Change, Kernel};
+use kernel_state::{Beginning, Change, Kernel, ThreadChange};
 use posix_model::{Arguments, Attributes, Ending, Reply, Wait};
 use ready_queues::Ready;
 use thread_base::{Errno, Tid};
 use thread_table::Row;
 
 /// Tells the caller's number, by POSIX.1 pthread_self.
-pub(crate) fn self_number<R: Ready + Drop>(k: &mut Kernel<R>, t: Tid) -> Reply
+pub(crate) fn self_number<R: Ready + Drop>(k: &mut Kernel<R>, t: Tid, c: Arguments) -> Reply
     requires { CanBegin R.order k.old t }
-    ensures noted { IsNoted R.order k.old k.new (calls.self_number (view R.order k.old.tables) t).made }
-    ensures reply { result ≡ (calls.self_number (view R.order k.old.tables) t).reply }
+    ensures noted { HasNotedSome R.order k.old k.new (calls.self_number (view R.order k.old.tables) t c).outcome }
+    ensures reply { result ≡ (calls.self_number (view R.order k.old.tables) t c).reply }
 {
-    k.note_one(
-        t,
-        Change::Reply {
-            thread: t,
-            error: 0,
-            value: t.number(),
-        },
-    );
+    k.note_one(t, Change::reply(t, 0, t.number()));
     Reply::Values(0, t.number())
 }
 
 /// Puts the caller behind the others, by POSIX.1 sched_yield.
 #[tactic(auto, using(crate::proofs::StayLemmas::there_to_end))]
-pub(crate) fn yield_turn<R: Ready + Drop>(k: &mut Kernel<R>, t: Tid) -> Reply
+pub(crate) fn yield_turn<R: Ready + Drop>(k: &mut Kernel<R>, t: Tid, c: Arguments) -> Reply
     requires { CanBegin R.order k.old t }
-    ensures noted { IsNoted R.order k.old k.new (calls.yield (view R.order k.old.tables) t).made }
-    ensures reply { result ≡ (calls.yield (view R.order k.old.tables) t).reply }
+    ensures noted { HasNotedSome R.order k.old k.new (calls.yield (view R.order k.old.tables) t c).outcome }
+    ensures reply { result ≡ (calls.yield (view R.order k.old.tables) t c).reply }
 {
+    let change = ThreadChange::ToEnd;
     k.note_two(
         t,
-        Change::ToEnd { thread: t },
-        Change::Reply {
-            thread: t,
-            error: 0,
-            value: 0,
-        },
+        Change::Thread { thread: t, change },
+        Change::reply(t, 0, 0),
     );
     Reply::Values(0, 0)
 }
@@ -55,28 +44,28 @@ pub(crate) fn yield_turn<R: Ready + Drop>(k: &mut Kernel<R>, t: Tid) -> Reply
 fn cannot_start(c: Arguments) -> bool
     ensures { result ≡ cannot_start c }
 {
-    c.a % 4 != 0 || c.d % 16 != 0 || !Attributes { word: c.e }.are_valid()
+    c.a0 % 4 != 0 || c.a2 % 16 != 0 || !Attributes { word: c.a3 }.are_valid()
 }
 
 /// What a new thread begins with that a thread makes.
 fn first_of(creator: Row, c: Arguments) -> Beginning
     ensures { (thread : Thread) → thread.base ≡ creator.base → thread.policy ≡ creator.policy → begun_thread result ≡ new_thread thread c }
 {
-    let attributes = Attributes { word: c.e };
+    let attributes = Attributes { word: c.a3 };
     Beginning {
         base: attributes.base(creator.base),
         policy: attributes.policy(creator.policy),
         detached: attributes.detached(),
-        routine: c.a,
-        argument: c.b,
-        stack: c.d,
+        routine: c.a0,
+        argument: c.a1,
+        stack: c.a2,
     }
 }
 
 /// Makes a new thread, by POSIX.1 pthread_create.
 pub(crate) fn create<R: Ready + Drop>(k: &mut Kernel<R>, t: Tid, c: Arguments) -> Reply
     requires { CanBegin R.order k.old t }
-    ensures noted { IsNoted R.order k.old k.new (calls.create (view R.order k.old.tables) t c).made }
+    ensures noted { HasNotedSome R.order k.old k.new (calls.create (view R.order k.old.tables) t c).outcome }
     ensures reply { result ≡ (calls.create (view R.order k.old.tables) t c).reply }
 {
     if cannot_start(c) {
@@ -91,29 +80,24 @@ pub(crate) fn create<R: Ready + Drop>(k: &mut Kernel<R>, t: Tid, c: Arguments) -
 /// Starts the exit of the caller, by POSIX.1 pthread_exit.
 pub(crate) fn exit_thread<R: Ready + Drop>(k: &mut Kernel<R>, t: Tid, c: Arguments) -> Reply
     requires { CanBegin R.order k.old t }
-    ensures noted { IsNoted R.order k.old k.new (calls.exit_thread (view R.order k.old.tables) t c).made }
+    ensures noted { HasNotedSome R.order k.old k.new (calls.exit_thread (view R.order k.old.tables) t c).outcome }
     ensures reply { result ≡ (calls.exit_thread (view R.order k.old.tables) t c).reply }
 {
-    k.note_one(
-        t,
-        Change::StartExit {
-            thread: t,
-            value: c.a,
-        },
-    );
+    let change = ThreadChange::StartExit { value: c.a0 };
+    k.note_one(t, Change::Thread { thread: t, change });
     Reply::Exit
 }
 
 /// Ends the process.
 pub(crate) fn exit<R: Ready + Drop>(k: &mut Kernel<R>, t: Tid, c: Arguments) -> Reply
     requires { CanBegin R.order k.old t }
-    ensures noted { IsNoted R.order k.old k.new (calls.exit (view R.order k.old.tables) t c).made }
+    ensures noted { HasNotedSome R.order k.old k.new (calls.exit (view R.order k.old.tables) t c).outcome }
     ensures reply { result ≡ (calls.exit (view R.order k.old.tables) t c).reply }
 {
     k.note_one(
         t,
         Change::Over {
-            ending: Ending::Exit(c.a % 256),
+            ending: Ending::Exit(c.a0 % 256),
         },
     );
     Reply::End
@@ -124,21 +108,17 @@ pub(crate) fn exit<R: Ready + Drop>(k: &mut Kernel<R>, t: Tid, c: Arguments) -> 
 fn start<R: Ready + Drop>(k: &mut Kernel<R>, t: Tid, u: Tid, c: Arguments) -> Reply
     requires ready { CanBegin R.order k.old t }
     requires free { free_number (view R.order k.old.tables) ≡ Some u }
-    ensures noted { IsNoted R.order k.old k.new (calls.created (view R.order k.old.tables) t c (Some u)).made }
+    ensures noted { HasNotedSome R.order k.old k.new (calls.created (view R.order k.old.tables) t c (Some u)).outcome }
     ensures reply { result ≡ (calls.created (view R.order k.old.tables) t c (Some u)).reply }
 {
-    let creator = k.tables().there(t).row;
+    let creator = k.tables().known(t).row;
+    let change = ThreadChange::Create {
+        beginning: first_of(creator, c),
+    };
     k.note_two(
         t,
-        Change::Create {
-            thread: u,
-            beginning: first_of(creator, c),
-        },
-        Change::Reply {
-            thread: t,
-            error: 0,
-            value: u.number(),
-        },
+        Change::Thread { thread: u, change },
+        Change::reply(t, 0, u.number()),
     );
     Reply::Values(0, u.number())
 }
@@ -146,13 +126,13 @@ fn start<R: Ready + Drop>(k: &mut Kernel<R>, t: Tid, u: Tid, c: Arguments) -> Re
 /// Waits for the end of a thread, or takes its value, by POSIX.1 pthread_join.
 pub(crate) fn join<R: Ready + Drop>(k: &mut Kernel<R>, t: Tid, c: Arguments) -> Reply
     requires { CanBegin R.order k.old t }
-    ensures noted { IsNoted R.order k.old k.new (calls.join (view R.order k.old.tables) t c).made }
+    ensures noted { HasNotedSome R.order k.old k.new (calls.join (view R.order k.old.tables) t c).outcome }
     ensures reply { result ≡ (calls.join (view R.order k.old.tables) t c).reply }
 {
-    if c.a == t.number() {
+    if c.a0 == t.number() {
         return k.refuse(t, Errno::EDEADLK);
     }
-    let Some(u) = k.tables().thread(c.a) else {
+    let Some(u) = k.tables().thread(c.a0) else {
         return k.refuse(t, Errno::ESRCH);
     };
     if k.tables().is_taken(u) {
@@ -166,30 +146,23 @@ fn join_thread<R: Ready + Drop>(k: &mut Kernel<R>, t: Tid, u: Tid) -> Reply
     requires ready { CanBegin R.order k.old t }
     requires there { exists (view R.order k.old.tables) u ≡ true }
     requires apart { u ≢ t }
-    ensures noted { IsNoted R.order k.old k.new (calls.join_by (view R.order k.old.tables) t u ((view R.order k.old.tables).threads u).standing).made }
+    ensures noted { HasNotedSome R.order k.old k.new (calls.join_by (view R.order k.old.tables) t u ((view R.order k.old.tables).threads u).standing).outcome }
     ensures reply { result ≡ (calls.join_by (view R.order k.old.tables) t u ((view R.order k.old.tables).threads u).standing).reply }
 {
-    match k.tables().there(u).row.ended {
+    match k.tables().known(u).row.ended {
         Some(value) => {
+            let change = ThreadChange::Free;
             k.note_two(
                 t,
-                Change::Free { thread: u },
-                Change::Reply {
-                    thread: t,
-                    error: 0,
-                    value,
-                },
+                Change::Thread { thread: u, change },
+                Change::reply(t, 0, value),
             );
             Reply::Values(0, value)
         }
         None => {
-            k.note_one(
-                t,
-                Change::Await {
-                    thread: t,
-                    wait: Wait::Join(u),
-                },
-            );
+            let wait = Wait::Join(u);
+            let change = ThreadChange::Await { wait };
+            k.note_one(t, Change::Thread { thread: t, change });
             Reply::Block
         }
     }
@@ -198,10 +171,10 @@ fn join_thread<R: Ready + Drop>(k: &mut Kernel<R>, t: Tid, u: Tid) -> Reply
 /// Detaches a thread, by POSIX.1 pthread_detach.
 pub(crate) fn detach<R: Ready + Drop>(k: &mut Kernel<R>, t: Tid, c: Arguments) -> Reply
     requires { CanBegin R.order k.old t }
-    ensures noted { IsNoted R.order k.old k.new (calls.detach (view R.order k.old.tables) t c).made }
+    ensures noted { HasNotedSome R.order k.old k.new (calls.detach (view R.order k.old.tables) t c).outcome }
     ensures reply { result ≡ (calls.detach (view R.order k.old.tables) t c).reply }
 {
-    let Some(u) = k.tables().thread(c.a) else {
+    let Some(u) = k.tables().thread(c.a0) else {
         return k.refuse(t, Errno::ESRCH);
     };
     if k.tables().is_taken(u) {
@@ -214,28 +187,26 @@ pub(crate) fn detach<R: Ready + Drop>(k: &mut Kernel<R>, t: Tid, c: Arguments) -
 fn detach_thread<R: Ready + Drop>(k: &mut Kernel<R>, t: Tid, u: Tid) -> Reply
     requires ready { CanBegin R.order k.old t }
     requires there { exists (view R.order k.old.tables) u ≡ true }
-    ensures noted { IsNoted R.order k.old k.new (values (begun (calls.detached_by (view R.order k.old.tables) u ((view R.order k.old.tables).threads u).standing)) t 0 0).made }
+    ensures noted { HasNotedSome R.order k.old k.new (values (begun (calls.detached_by (view R.order k.old.tables) u ((view R.order k.old.tables).threads u).standing)) t 0 0).outcome }
     ensures reply { result ≡ Reply.Values 0 0 }
 {
-    let answer = Change::Reply {
-        thread: t,
-        error: 0,
-        value: 0,
+    let change = match k.tables().known(u).row.ended {
+        Some(_) => ThreadChange::Free,
+        None => ThreadChange::Detach,
     };
-    match k.tables().there(u).row.ended {
-        Some(_) => k.note_two(t, Change::Free { thread: u }, answer),
-        None => k.note_two(t, Change::Detach { thread: u }, answer),
-    }
+    k.note_two(
+        t,
+        Change::Thread { thread: u, change },
+        Change::reply(t, 0, 0),
+    );
     Reply::Values(0, 0)
 }
 
-/// Makes the row of one of the calls of this crate.
-#[tactic(auto, unfolding(posix_model::specs::Calls::table_row))]
+/// Makes the row of one of the calls of this crate; a number that it does not have answers ENOSYS.
 pub(crate) fn row<R: Ready + Drop>(k: &mut Kernel<R>, t: Tid, number: u32, c: Arguments) -> Reply
-    requires ready { CanBegin R.order k.old t }
-    requires here { is_thread_call number ≡ true }
-    ensures noted { IsNoted R.order k.old k.new (calls.table_row (view R.order k.old.tables) t number c).made }
-    ensures reply { result ≡ (calls.table_row (view R.order k.old.tables) t number c).reply }
+    requires { CanBegin R.order k.old t }
+    ensures noted { HasNotedSome R.order k.old k.new (row_of thread_calls number (view R.order k.old.tables) t c).outcome }
+    ensures reply { result ≡ (row_of thread_calls number (view R.order k.old.tables) t c).reply }
 {
     match number {
         93 => exit(k, t, c),
@@ -243,7 +214,8 @@ pub(crate) fn row<R: Ready + Drop>(k: &mut Kernel<R>, t: Tid, number: u32, c: Ar
         257 => exit_thread(k, t, c),
         258 => join(k, t, c),
         259 => detach(k, t, c),
-        260 => self_number(k, t),
-        _ => yield_turn(k, t),
+        260 => self_number(k, t, c),
+        261 => yield_turn(k, t, c),
+        _ => k.refuse(t, Errno::ENOSYS),
     }
 }

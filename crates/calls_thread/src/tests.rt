@@ -2,7 +2,7 @@
 
 ghost use Rattle.std.specs.Prelude.{◌≡◌, [], true, IfOk};
 ghost use Rattle.kernel_state.specs.Begun.{CanBegin};
-ghost use Rattle.calls_thread.specs.Numbers.{is_thread_call};
+ghost use Rattle.thread_base.specs.Numbers.{family_of};
 
 use crate::{begin, begin_fault, begin_return, begin_unknown, step};
 use elf_image::EntryPoint;
@@ -12,7 +12,7 @@ use ready_queues::{PlainReady, Ready};
 use rv_exec::{Memory, Special};
 use std::alloc::Global;
 use std::test::Fail;
-use thread_base::{CallNo, NoMemory, Sig, Tid};
+use thread_base::{CallNo, Family, NoMemory, Sig, Tid};
 
 /// A kernel at the start of a run over 65,536 bytes.
 fn start<R: Ready + Drop>(alloc: Global, ready: R) -> Result<Kernel<R>, NoMemory>
@@ -35,7 +35,7 @@ fn call<R: Ready + Drop>(
     args: [u32; 4],
 ) -> Result<Option<Reply>, NoMemory>
     requires empty { R.order ready ≡ [] }
-    requires here { is_thread_call number ≡ true }
+    requires here { family_of number ≡ Family.Threads }
 {
     let mut k = start(alloc, ready)?;
     match CallNo::new(number) {
@@ -65,12 +65,16 @@ fn special<R: Ready + Drop>(alloc: Global, ready: R, which: Special) -> Result<R
     Ok(k.finish())
 }
 
-/// The reply to a call of an unknown number, by steps; None where it is not made by the first.
+/// The reply to a call of an unknown number, by steps; None where the number is known, or where it is not made by the
+/// first.
 fn unknown<R: Ready + Drop>(alloc: Global, ready: R, number: u32) -> Result<Option<Reply>, NoMemory>
     requires { R.order ready ≡ [] }
 {
     let mut k = start(alloc, ready)?;
-    begin_unknown(&mut k, Tid::at(0), number, [0; 4]);
+    match CallNo::new(number) {
+        Some(_) => return Ok(None),
+        None => begin_unknown(&mut k, Tid::at(0), number, [0; 4]),
+    }
     if k.is_idle() {
         return Ok(None);
     }
@@ -91,8 +95,8 @@ fn reply_of(report: &Report) -> Option<Reply> {
 #[test]
 fn calls_of_threads(rt: HostRuntime) -> Result<(), Fail> {
     let alloc = rt.alloc();
-    let made = call(alloc, PlainReady::new(alloc)?, 256, [65_796, 7, 131_072, 0])?;
-    assert_eq!(rt; made, Some(Reply::Values(0, 2)));
+    let outcome = call(alloc, PlainReady::new(alloc)?, 256, [65_796, 7, 131_072, 0])?;
+    assert_eq!(rt; outcome, Some(Reply::Values(0, 2)));
     let left = call(alloc, PlainReady::new(alloc)?, 257, [5, 0, 0, 0])?;
     assert_eq!(rt; left, Some(Reply::Exit));
     let joined = call(alloc, PlainReady::new(alloc)?, 258, [2, 0, 0, 0])?;

@@ -1,10 +1,11 @@
 use Rattle.std.proofs.Common.{◌≡◌, ◌∙◌, ap, sym, subst, Some}
 use Rattle.posix_model.specs.State.{State}
-use Rattle.posix_model.specs.Changes.{Made, begun, reply}
-use Rattle.posix_model.specs.Conditions.{cond_mutex, cond_waiters, in_order, wake_all}
+use Rattle.posix_model.specs.Changes.{Outcome, begun, reply}
+use Rattle.thread_base.specs.Objects.{cond_mutex, cond_waiters}
+use Rattle.posix_model.specs.Conditions.{in_order, wake_all}
 use Rattle.posix_model.specs.Scheduling.{eff}
 use Rattle.kernel_state.specs.View.{view}
-use Rattle.kernel_state.specs.Begun.{IsNoted}
+use Rattle.kernel_state.specs.Begun.{HasNotedSome}
 use Rattle.kernel_state.specs.Changing.{Can, change_by}
 use Rattle.kernel_state.specs.declared.change.Change.{Change}
 use Rattle.kernel_state.specs.declared.tables.Tables.{Tables}
@@ -22,9 +23,9 @@ returns-in-Some g c = λ condition here.
     let all : c.deref.result.now ≡ in_order (eff s) (cond_waiters (s.conditions c.args.c)) =
     c.deref.ensures.0 ∙ c.wake_order-wake_order.ensures
     ∙ ap (λ (x : Tables _). in_order (eff (view order x)) (cond_waiters ((view order x).conditions c.args.c))) c.tables-in-Some.ensures in
-    let woken : Made = wake_all (begun s) c.deref.result.now in
+    let woken : Outcome = wake_all (begun s) c.deref.result.now in
     let there = there_all s c.args.c c.in-Some.m ready.good bound c.deref.result.now all c.args.t ready.listed in
     let is : woken ≡ wake_all (begun s) (in_order (eff s) condition.waiters) = ap (wake_all (begun s)) (all ∙ ap (λ o. in_order (eff s) (cond_waiters o)) here) in
-    subst (λ (x : Made). IsNoted order k c.note_more.new.self (record x { state = reply x.state c.args.t 0 0 })) is
-    (subst (λ (x : Change). IsNoted order k c.note_more.new.self (change_by x woken)) c.answer-in-Some.ensures
+    subst (λ (x : Outcome). HasNotedSome order k c.note_more.new.self (record x { state = reply x.state c.args.t 0 0 })) is
+    (subst (λ (x : Change). HasNotedSome order k c.note_more.new.self (change_by x woken)) c.answer-in-Some.ensures
     (c.note_more.ensures.noted k woken c.wake_each.ensures.noted (subst (λ (x : Change). Can x woken) (sym c.answer-in-Some.ensures) there)))

@@ -1,9 +1,9 @@
 use Rattle.std.proofs.Common.{◌≡◌, ◌∙◌, ap, sym, subst, true, Option, Some, is_some}
 use Rattle.posix_model.specs.State.{State, Mutex, Condition}
 use Rattle.posix_model.specs.ConditionCalls.{cond_wait_of}
-use Rattle.posix_model.specs.Mutexes.{waiters_of}
+use Rattle.thread_base.specs.Objects.{waiters_in}
 use Rattle.kernel_state.specs.View.{view, mutex_by, seen}
-use Rattle.kernel_state.specs.Begun.{IsNoted}
+use Rattle.kernel_state.specs.Begun.{HasNotedSome}
 use Rattle.kernel_state.specs.declared.tables.Tables.{Tables}
 use Rattle.calls_sync.proofs.WakeLemmas.{a_condition}
 use Rattle.calls_sync.proofs.conditions.cond_wait.Goals as goal
@@ -14,13 +14,13 @@ returns-in-Some-clause-noted g c =
     let k = c.args.k.now in
     let s : State = view order k.tables in
     let t = c.args.t in
-    let m = c.args.c.b in
-    let there : is_some (s.conditions c.args.c.a) ≡ true =
-    sym (c.has_condition.ensures.member ∙ ap (λ (x : Tables _). is_some ((view order x).conditions c.args.c.a)) c.tables.ensures) ∙ c.if-not-has_condition.false in
-    let condition = a_condition (s.conditions c.args.c.a) there in
-    let found : s.mutexes m ≡ Some (seen c.in-Some.look (waiters_of s m)) =
-    subst (λ (x : Tables _). (view order x).mutexes m ≡ mutex_by c.mutex.result (waiters_of (view order x) m)) c.tables-2.ensures c.mutex.ensures.mutex
-    ∙ ap (λ o. mutex_by o (waiters_of s m)) c.in-Some.is in
-    subst (λ (o : Option Condition). IsNoted order k c.wait_with.new.k (cond_wait_of s t c.args.c.a o m (s.mutexes m)).made) (sym condition.1)
-    (subst (λ (o : Option Mutex). IsNoted order k c.wait_with.new.k (cond_wait_of s t c.args.c.a (Some condition.0) m o).made) (sym found)
+    let m = c.args.c.a1 in
+    let there : is_some (s.conditions c.args.c.a0) ≡ true =
+    sym (c.has_condition.ensures.member ∙ ap (λ (x : Tables _). is_some ((view order x).conditions c.args.c.a0)) c.tables.ensures) ∙ c.if-not-has_condition.false in
+    let condition = a_condition (s.conditions c.args.c.a0) there in
+    let found : s.mutexes m ≡ Some (seen c.in-Some.look (waiters_in (s.mutexes m))) =
+    subst (λ (x : Tables _). (view order x).mutexes m ≡ mutex_by c.mutex.result (waiters_in ((view order x).mutexes m))) c.tables-2.ensures c.mutex.ensures.mutex
+    ∙ ap (λ o. mutex_by o (waiters_in (s.mutexes m))) c.in-Some.is in
+    subst (λ (o : Option Condition). HasNotedSome order k c.wait_with.new.k (cond_wait_of s t c.args.c.a0 o m (s.mutexes m)).outcome) (sym condition.1)
+    (subst (λ (o : Option Mutex). HasNotedSome order k c.wait_with.new.k (cond_wait_of s t c.args.c.a0 (Some condition.0) m o).outcome) (sym found)
     (c.wait_with.ensures.noted condition.0 condition.1))

@@ -1,15 +1,15 @@
 use Rattle.std.proofs.Common.{◌≡◌, ap, sym, subst, arith, Some, true, is_some, length}
 use Rattle.posix_model.specs.State.{State}
 use Rattle.posix_model.specs.Good.{IsGood}
-use Rattle.posix_model.specs.Changes.{Made, begun}
+use Rattle.posix_model.specs.Changes.{Outcome, begun}
 use Rattle.posix_model.specs.ConditionCalls.{await_condition}
 use Rattle.posix_model.specs.Mutexes.{best_waiter, hand}
 use Rattle.kernel_state.specs.View.{view}
-use Rattle.kernel_state.specs.Begun.{HasNoted, IsNoted}
+use Rattle.kernel_state.specs.Begun.{HasNoted, HasNotedSome}
+use Rattle.kernel_state.specs.declared.change.Change.{Change}
 use Rattle.kernel_state.specs.declared.tables.Tables.{Tables}
-use Rattle.calls_sync.specs.Waking.{LeavesMutex}
-use Rattle.calls_sync.proofs.HandLemmas.{leaves_at_wait}
-use Rattle.calls_sync.proofs.WaitLemmas.{entered, tables_entered, waits_so}
+use Rattle.kernel_state.specs.Waking.{LeavesMutex}
+use Rattle.calls_sync.proofs.WaitLemmas.{entered, tables_entered, waits_so, leaves_at_wait}
 use Rattle.calls_sync.proofs.conditions.wait_and_release.Goals as goal
 
 pub hand_over-requires-clause-good : goal.hand_over-requires-clause-good
@@ -28,7 +28,7 @@ hand_over-requires-clause-exists g c =
 
 pub hand_over-requires-clause-room : goal.hand_over-requires-clause-room
 hand_over-requires-clause-room g c =
-    let none = ap length c.requires.ready.idle in
+    let none = ap (length {A = Change}) c.requires.ready.idle.none in
     let one = c.note_more.ensures.length in
     let two = c.note_more-2.ensures.length in
     omega (arith, none, one, two)
@@ -41,13 +41,13 @@ returns g c = λ condition mutex here there often.
     let t = c.args.t in
     let m = c.args.m in
     let ready = c.requires.ready in
-    let waiting : Made = begun (await_condition s t c.args.c condition m mutex) in
+    let waiting : Outcome = begun (await_condition s t c.args.c condition m mutex) in
     let noted = entered order k t c.args.c m c.args.count ready c.requires.exists c.requires.same
     c.note_more.new.self c.note_more.ensures.noted c.note_more-2.new.self c.note_more-2.ensures.noted in
     let tables = tables_entered order k t c.args.c m c.args.count ready c.requires.exists c.requires.same
     c.note_more.new.self c.note_more.ensures.noted c.note_more-2.new.self c.note_more-2.ensures.noted in
-    let so_far = subst (λ (x : Made). HasNoted order k c.note_more-2.new.self x) (waits_so s t c.args.c m c.args.count condition mutex here often) noted in
+    let so_far = subst (λ (x : Outcome). HasNoted order k c.note_more-2.new.self x) (waits_so s t c.args.c m c.args.count condition mutex here often) noted in
     subst (λ (x : Tables _). (view order x).mutexes m ≡ Some mutex → LeavesMutex (view order x) waiting.state m
-    → IsNoted order k c.hand_over.new.k (hand waiting m mutex (best_waiter (view order x) mutex)))
+    → HasNotedSome order k c.hand_over.new.self (hand waiting m mutex (best_waiter (view order x) mutex)))
     tables (c.hand_over.ensures.noted k waiting mutex so_far) there
-    (leaves_at_wait s t c.args.c m m condition mutex ready.good ready.listed)
+    (leaves_at_wait s t c.args.c m condition mutex ready.good ready.listed)

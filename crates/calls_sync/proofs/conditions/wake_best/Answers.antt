@@ -1,14 +1,15 @@
 use Rattle.std.proofs.Common.{◌≡◌, ◌∙◌, ap, sym, refl, subst, Some}
 use Rattle.posix_model.specs.State.{State}
-use Rattle.posix_model.specs.Changes.{Made, begun}
-use Rattle.posix_model.specs.Conditions.{cond_mutex, wake}
+use Rattle.posix_model.specs.Changes.{Outcome, begun}
+use Rattle.thread_base.specs.Objects.{cond_mutex}
+use Rattle.posix_model.specs.Conditions.{wake}
 use Rattle.posix_model.specs.declared.RetakeReply.TheVariants.{Answer}
 use Rattle.kernel_state.specs.View.{view}
-use Rattle.kernel_state.specs.Begun.{IsNoted}
+use Rattle.kernel_state.specs.Begun.{HasNotedSome}
 use Rattle.kernel_state.specs.Changing.{Can, change_by}
 use Rattle.kernel_state.specs.declared.change.Change.{Change}
 use Rattle.kernel_state.specs.declared.tables.Tables.{Tables}
-use Rattle.calls_sync.proofs.NotingLemmas.{noted_none, noted_so_far}
+use Rattle.kernel_state.proofs.NoteLemmas.{noted_none}
 use Rattle.calls_sync.proofs.WakeLemmas.{is_waiter_on, there_woken}
 use Rattle.calls_sync.proofs.conditions.wake_best.Goals as goal
 
@@ -21,8 +22,8 @@ returns g c =
     let bound : cond_mutex (s.conditions c.args.c) ≡ Some c.in-Some.m =
     sym (c.condition_mutex.ensures.mutex ∙ ap (λ (x : Tables _). cond_mutex ((view order x).conditions c.args.c)) c.tables.ensures) ∙ c.in-Some.is in
     let waiting_on = is_waiter_on s c.args.u c.args.c c.in-Some.m ready.good c.requires.waits bound in
-    let woken : Made = wake (begun s) c.args.u (Answer 0) in
-    let noted = c.wake.ensures.noted k (begun s) (noted_none order k c.args.t ready) ready.good waiting_on refl c.is_free_mutex-free.ensures in
-    subst (λ (x : Change). IsNoted order k c.note_more.new.self (change_by x woken)) c.answer.ensures
-    (c.note_more.ensures.noted k woken (noted_so_far order k c.wake.new.k woken noted)
+    let woken : Outcome = wake (begun s) c.args.u (Answer 0) in
+    let noted = c.wake.ensures.noted k (begun s) (noted_none order k ready.idle ready.untold) ready.good waiting_on refl in
+    subst (λ (x : Change). HasNotedSome order k c.note_more.new.self (change_by x woken)) c.answer.ensures
+    (c.note_more.ensures.noted k woken noted.so_far
     (subst (λ (x : Change). Can x woken) (sym c.answer.ensures) (there_woken s c.args.t c.args.u c.args.c c.in-Some.m ready.listed waiting_on)))

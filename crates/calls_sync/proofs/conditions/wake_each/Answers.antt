@@ -1,20 +1,20 @@
 use Rattle.std.proofs.Common.{◌≡◌, ◌∙◌, ap, sym, refl, subst, arith, ℕ, true, ◌<◌, List, length, take, get_or}
-use Rattle.thread_base.specs.Holders.{is_free}
 use Rattle.thread_base.specs.Orders.{is_in}
 use Rattle.posix_model.specs.State.{State}
-use Rattle.posix_model.specs.Changes.{Made, begun}
-use Rattle.posix_model.specs.Conditions.{cond_waiters, wake_all}
-use Rattle.posix_model.specs.Mutexes.{holder_of}
+use Rattle.posix_model.specs.Changes.{Outcome, begun}
+use Rattle.thread_base.specs.Objects.{cond_waiters}
+use Rattle.posix_model.specs.Conditions.{wake_all}
 use Rattle.kernel_state.specs.View.{view}
 use Rattle.kernel_state.specs.Begun.{HasNoted}
 use Rattle.kernel_state.specs.declared.tables.Tables.{Tables}
-use Rattle.calls_sync.proofs.NotingLemmas.{noted_none, noted_so_far, tables_stay}
-use Rattle.calls_sync.proofs.HandLemmas.{taken_then}
+use Rattle.kernel_state.specs.declared.change.Change.{Change}
+use Rattle.kernel_state.proofs.NoteLemmas.{noted_none, tables_stay}
 use Rattle.calls_sync.proofs.WakeLemmas.{few_cond_waiters, still_waits, stays_there, good_before, waits_on_still, one_more}
 use Rattle.calls_sync.proofs.conditions.wake_each.Goals as goal
 
 pub loop-number-init : goal.loop-number-init
-loop-number-init g c = (noted_none g.R.Ready.order c.args.k.now c.args.t c.requires.ready, ap length c.requires.ready.idle, c.is_free_mutex-free.ensures)
+loop-number-init g c =
+    (noted_none g.R.Ready.order c.args.k.now c.requires.ready.idle c.requires.ready.untold, ap (length {A = Change}) c.requires.ready.idle.none)
 
 pub cond_waiter-u-requires-clause-waits : goal.cond_waiter-u-requires-clause-waits
 cond_waiter-u-requires-clause-waits g c =
@@ -52,18 +52,17 @@ loop-number-preserved g c =
     let all = c.requires.all in
     let u = c.cond_waiter-u.result in
     let is : u ≡ get_or xs i 0 = c.cond_waiter-u.ensures.number in
-    let before : Made = wake_all (begun s) (take i xs) in
+    let before : Outcome = wake_all (begun s) (take i xs) in
     let tables = tables_stay order k c.loop-number.k before c.loop-number.invariant.0 in
     let waiting_on = waits_on_still s cond m good bound xs all i inside u is in
     let fine = good_before s cond m good bound xs all i inside u is in
     let more = one_more s cond m good bound xs all i inside u is in
     let same = stays_there s cond m good bound xs all i inside u is ∙ sym (ap (λ (x : Tables _). (view order x).threads u) tables) in
-    let woken = c.wake.ensures.noted k before c.loop-number.invariant.0 fine waiting_on same c.loop-number.invariant.2 in
+    let woken = c.wake.ensures.noted k before c.loop-number.invariant.0 fine waiting_on same in
     let many = c.loop-number.invariant.1 in
-    let three = c.wake.ensures.length in (
-      subst (λ (x : Made). HasNoted order k c.wake.new.k x) more (noted_so_far order k c.wake.new.k _ woken),
-      omega (arith, many, three),
-      sym (ap (λ (x : Made). is_free (holder_of x.state m)) (sym more) ∙ taken_then before cond m u fine waiting_on),
+    let two = c.wake.ensures.length in (
+      subst (λ (x : Outcome). HasNoted order k c.wake.new.self x) more woken.so_far,
+      omega (arith, many, two),
     )
 
 pub returns-clause-length : goal.returns-clause-length

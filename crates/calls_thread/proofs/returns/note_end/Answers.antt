@@ -1,11 +1,12 @@
 use Rattle.std.proofs.Common.{◌≡◌, ◌∙◌, ap, sym, subst, Some, None}
-use Rattle.posix_model.specs.Changes.{Made, begun}
+use Rattle.posix_model.specs.Changes.{Outcome, begun}
 use Rattle.posix_model.specs.State.{State}
 use Rattle.posix_model.specs.Threads.{joiner}
 use Rattle.kernel_state.specs.View.{view}
 use Rattle.kernel_state.specs.Changing.{change_by}
-use Rattle.kernel_state.specs.Begun.{HasNoted, IsNoted}
-use Rattle.kernel_state.specs.declared.change.Change.TheVariants.{Answer}
+use Rattle.kernel_state.specs.Begun.{HasNotedSome, NotesMore}
+use Rattle.kernel_state.specs.declared.change.Change.TheVariants.{Thread as OfThread}
+use Rattle.kernel_state.specs.declared.change.ThreadChange.TheVariants.{Answer, End}
 use Rattle.kernel_state.specs.declared.tables.Tables.{Tables}
 use Rattle.calls_thread.specs.Orphans.{with_orphans}
 use Rattle.calls_thread.proofs.EndLemmas.{can_answer, can_end, can_end_alone, ended_alone, ended_joined}
@@ -17,8 +18,8 @@ returns-in-None g c =
     let t = c.args.t in
     let s : State = view g.R.Ready.order k.tables in
     let nobody : joiner s t ≡ None = sym (c.joiner-joiner.ensures ∙ ap (λ (x : Tables _). joiner (view g.R.Ready.order x) t) c.tables.ensures) ∙ c.in-None.is in
-    subst (λ (g' : Made). IsNoted g.R.Ready.order k c.note_more.new.self g') (ended_alone s t c.args.value nobody)
-    (c.note_more.ensures.noted k (begun (with_orphans s t)) c.note_orphans.ensures.noted (can_end_alone s t c.args.value c.requires.listed c.requires.calm))
+    subst (λ (g' : Outcome). HasNotedSome g.R.Ready.order k c.note_more.new.self g') (ended_alone s t c.args.value nobody)
+    (subst (NotesMore g.R.Ready.order c.note_orphans.new.k c.note_more.new.self) c.ended.ensures c.note_more.ensures.noted k (begun (with_orphans s t)) c.note_orphans.ensures.noted (can_end_alone s t c.args.value c.requires.listed c.requires.calm))
 
 pub returns-in-Some : goal.returns-in-Some
 returns-in-Some g c =
@@ -27,8 +28,7 @@ returns-in-Some g c =
     let u = c.in-Some.u in
     let s : State = view g.R.Ready.order k.tables in
     let found : joiner s t ≡ Some u = sym (c.joiner-joiner.ensures ∙ ap (λ (x : Tables _). joiner (view g.R.Ready.order x) t) c.tables.ensures) ∙ c.in-Some.is in
-    let answered : Made = change_by (Answer u 0 c.args.value) (begun (with_orphans s t)) in
+    let answered : Outcome = change_by (OfThread u (Answer 0 c.args.value)) (begun (with_orphans s t)) in
     let first = c.note_more-in-Some.ensures.noted k (begun (with_orphans s t)) c.note_orphans.ensures.noted (can_answer s t u c.args.value c.requires.good c.requires.listed found) in
-    let so_far : HasNoted g.R.Ready.order k c.note_more-in-Some.new.self answered = record { owed = first.owed; can = first.can; others = first.others } in
-    subst (λ (g' : Made). IsNoted g.R.Ready.order k c.note_more-in-Some-2.new.self g') (ended_joined s t u c.args.value c.requires.good c.requires.listed found)
-    (c.note_more-in-Some-2.ensures.noted k answered so_far (can_end s t u c.args.value c.requires.good c.requires.listed found c.requires.calm))
+    subst (λ (g' : Outcome). HasNotedSome g.R.Ready.order k c.note_more-in-Some-2.new.self g') (ended_joined s t u c.args.value c.requires.good c.requires.listed found)
+    (subst (NotesMore g.R.Ready.order c.note_more-in-Some.new.self c.note_more-in-Some-2.new.self) c.ended-in-Some.ensures c.note_more-in-Some-2.ensures.noted k answered first.so_far (can_end s t u c.args.value c.requires.good c.requires.listed found c.requires.calm))

@@ -1,4 +1,5 @@
-use Rattle.std.proofs.Common.{arith}
+use Rattle.std.proofs.Common.{arith, subst}
+use Rattle.kernel_state.specs.Begun.{NotesMore}
 use Rattle.calls_thread.proofs.OrphanLemmas.{found_still, within_still, none_still, noted_none, noted_below, noted_all}
 use Rattle.calls_thread.proofs.returns.note_orphans.Goals as goal
 
@@ -21,7 +22,7 @@ loop-m-smaller g c =
 pub loop-m-preserved : goal.loop-m-preserved
 loop-m-preserved g c =
     let found = found_still g.R.Ready.order c.args.k.now c.args.t c.tables.result.now c.loop-m.k c.loop-m.from c.next_owned.result c.loop-m.invariant c.tables.ensures c.in-Some.m c.next_owned.ensures.least c.in-Some.is in
-    noted_below g.R.Ready.order c.args.k.now c.args.t c.loop-m.k c.note_more.new.self c.loop-m.from c.in-Some.m c.loop-m.invariant found c.note_more.ensures.noted c.note_more.ensures.length
+    noted_below g.R.Ready.order c.args.k.now c.args.t c.loop-m.k c.note_more.new.self c.loop-m.from c.in-Some.m c.loop-m.invariant found (subst (NotesMore g.R.Ready.order c.loop-m.k c.note_more.new.self) c.orphaned.ensures c.note_more.ensures.noted) c.note_more.ensures.length
 
 pub returns-clause-noted : goal.returns-clause-noted
 returns-clause-noted g c =
