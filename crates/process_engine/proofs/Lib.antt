@@ -1,6 +1,6 @@
-pub mod RowLemmas
-pub mod MoveLemmas
-pub mod TurnLemmas
-pub mod RunLemmas
+pub mod ReadableLemmas
+pub mod CountLemmas
+pub mod InstructionLemmas
+pub mod EngineLemmas
 pub mod StepLemmas
-pub mod CallLemmas
+pub mod RunLemmas

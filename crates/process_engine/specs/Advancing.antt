@@ -1,61 +1,110 @@
--- How the engine goes on by one move.
-use Rattle.std.specs.Prelude.{◌≡◌, List, []}
-use Rattle.posix_model.specs.State.{none_pending}
+-- How the engine goes on by one move, and by some.
+use Rattle.std.specs.Prelude.{ℕ, ◌≡◌, ◌≤◌, Bool, true, false, List, [], ◌++◌, length, Option, None}
+use Rattle.posix_model.specs.Changes.{Outcome}
+use Rattle.posix_model.specs.Instructions.{instruction}
+use Rattle.posix_model.specs.Reports.{nothing_told}
 use Rattle.posix_model.specs.Runs.{Moment, Allowed, IsRun, Ends, make, moved, after}
-use Rattle.posix_model.specs.Trace.{text}
-use Rattle.posix_model.specs.declared.Settings.{Settings}
+use Rattle.posix_model.specs.Trace.{text, switch_line}
 use Rattle.posix_model.specs.Lines.{lines}
+use Rattle.posix_model.specs.declared.Settings.{Settings}
 use Rattle.posix_model.specs.declared.Move.{Move}
 use Rattle.posix_model.specs.declared.Ending.{Ending}
+use Rattle.posix_model.specs.declared.Head.{Head}
 use Rattle.posix_model.specs.declared.Head.TheVariants.{Quiet}
-use Rattle.trace_text.specs.Counting.{no_counts, counted, counts, told_of, told_by}
-use Rattle.process_engine.specs.Program.{built, program}
-use Rattle.process_engine.specs.Engine.{Engine, moment_of, owed_of}
-use Rattle.process_engine.specs.declared.standing.Came.{Came}
-use Rattle.process_engine.specs.declared.standing.Came.TheVariants.{Plain, Switched, Begun, End}
-use Rattle.process_engine.specs.declared.standing.Standing.TheVariants.{Going, InCall}
+use Rattle.posix_model.specs.declared.Report.{Report}
+use Rattle.trace_text.specs.Counting.{no_counts, is_delivery, counted, counts, told_of, told_by as added_by}
+use Rattle.trace_text.specs.declared.tally.Counts.{Counts}
+use Rattle.kernel_state.specs.View.{view}
+use Rattle.kernel_state.specs.Moves.{left, owed_by, told_by}
+use Rattle.kernel_state.specs.declared.kernel.Kernel.{Kernel}
+use Rattle.process_engine.specs.Engine.{Engine, owed_of, moment_of, position_of, IsAtRest, HasTurn, IsInCall}
+use Rattle.process_engine.specs.declared.stage.Advance.{Advance}
+use Rattle.process_engine.specs.declared.stage.Advance.TheVariants.{Plain, Switched, Begun, End}
+use Rattle.process_engine.specs.declared.stage.Stage.TheVariants.{Going, InCall}
 
--- a move was made that has its turn and no lines
+-- the thread in place made its instruction, which tells nothing, and still has its turn
+pub record HasGoneOn {R : Type 0} (order : R → List ℕ) (k q : Kernel R) : Type 0 where
+  pub state : view order q.tables ≡ (instruction (view order k.tables) k.tables.placed).state
+  pub tells : (instruction (view order k.tables) k.tables.placed).report ≡ record nothing_told { tid = k.tables.placed }
+  pub rest : IsAtRest q
+  pub turn : HasTurn order q
+  pub placed : q.tables.placed ≡ k.tables.placed
+
+-- a move was begun that has a main line: it owes the machine this outcome, in 512 small changes at most
+pub record HasBegun {R : Type 0} (order : R → List ℕ) (q : Kernel R) (g : Outcome) : Type 0 where
+  pub owed : told_by q.tid q.head (owed_by order q) ≡ g
+  pub call : IsInCall order q
+  pub few : length (left q.rest) ≤ 512
+  pub main : g.report.head ≡ Quiet → ⊥
+
+-- the same of an instruction: its main line is not that of a delivery
+abbrev pub BeginsInstruction : {R : Type 0} → (R → List ℕ) → Kernel R → Outcome → Type 0
+BeginsInstruction order q g = HasBegun order q g × (is_delivery g.report.head ≡ false)
+
+-- the thread in place made its instruction where it was a plain one, and else its move was begun
+abbrev pub Instructs : {R : Type 0} → (R → List ℕ) → Kernel R → Bool → Kernel R → Type 0
+Instructs order k true q = HasGoneOn order k q
+Instructs order k false q = BeginsInstruction order q (instruction (view order k.tables) k.tables.placed)
+
+-- a move was made, or begun, that has its turn, with what it counts beside its instruction
+pub record MakesMove (p q : Engine) (head : Head) : Type 0 where
+  pub move : Move
+  pub allowed : Allowed p.settings (moment_of p) move
+  pub leads : moment_of q ≡ moved (moment_of p) move
+  pub counts : told_of (counted (moment_of p) move) ≡ added_by p.last q.last head
+
+-- a move was made that has no lines
 pub record MakesPlain (p q : Engine) : Type 0 where
-  pub move : Move
-  pub allowed : Allowed (program p.settings) (moment_of p) move
-  pub leads : moment_of q ≡ moved built (moment_of p) move
-  pub silent : lines (make built (moment_of p).state move).report (moment_of q).state.memory ≡ []
-  pub counts : told_of (counted built (moment_of p) move) ≡ told_by p.last q.last Quiet
-  pub standing : q.standing ≡ Going
+  pub makes : MakesMove p q Quiet
+  pub silent : lines (make (moment_of p).state makes.move).report (moment_of q).state.memory ≡ []
+  pub stage : q.stage ≡ Going
+  pub none : (position_of q).left ≡ 0
 
--- a move was begun that has its turn, and has a main line
+-- a move was begun that has a main line, and 512 small changes at most
 pub record BeginsMove (p q : Engine) : Type 0 where
-  pub move : Move
-  pub allowed : Allowed (program p.settings) (moment_of p) move
-  pub leads : moment_of q ≡ moved built (moment_of p) move
-  pub told : (owed_of q).report ≡ (make built (moment_of p).state move).report
+  pub makes : MakesMove p q (owed_of q).report.head
+  pub told : (owed_of q).report ≡ (make (moment_of p).state makes.move).report
   pub main : (owed_of q).report.head ≡ Quiet → ⊥
-  pub counts : told_of (counted built (moment_of p) move) ≡ told_by p.last q.last (owed_of q).report.head
-  pub standing : q.standing ≡ InCall
+  pub stage : q.stage ≡ InCall
+  pub some : 1 ≤ (position_of q).left
+  pub few : (position_of q).left ≤ 512
 
 -- the run has ended here
 pub record HasEnded (p q : Engine) (ending : Ending) : Type 0 where
-  pub ends : Ends (program p.settings) (moment_of p) ending
-  pub calm : (moment_of p).state.pending ≡ none_pending
+  pub ends : Ends p.settings (moment_of p) ending
   pub same : q ≡ p
 
 -- a plain instruction was made by the thread of the last one, or by any; a move was begun; or the run has ended. It is
 -- told who made the last instruction before
-abbrev pub Advances : Engine → Came → Engine → Type 0
+abbrev pub Advances : Engine → Advance → Engine → Type 0
 Advances p Plain q = MakesPlain p q × (q.last ≡ p.last)
 Advances p (Switched before) q = MakesPlain p q × (before ≡ p.last)
 Advances p (Begun before) q = BeginsMove p q × (before ≡ p.last)
 Advances p (End ending) q = HasEnded p q ending
 
--- moves were made that write no text, and nothing is told of them
-pub record Silently (settings : Settings) (old new : Moment) : Type 0 where
+-- some moves were made, with what was told of them and their text
+pub record Makes (settings : Settings) (old new : Moment) (told : Counts) (trace : List ℕ) : Type 0 where
   pub moves : List Move
-  pub run : IsRun (program settings) old moves
-  pub leads : new ≡ after built old moves
-  pub silent : text built old moves ≡ []
-  pub uncounted : told_of (counts built old moves) ≡ no_counts
+  pub run : IsRun settings old moves
+  pub leads : new ≡ after old moves
+  pub tells : told ≡ told_of (counts old moves)
+  pub text_is : trace ≡ text old moves
 
--- moves were made that write no text, and then one more
-abbrev pub Proceeds : Engine → Came → Engine → Type 0
-Proceeds p came q = (m : Engine) × Silently p.settings (moment_of p) (moment_of m) × (m.settings ≡ p.settings) × Advances m came q
+-- the same, and one move at least was made
+pub record MakesSome (settings : Settings) (old new : Moment) (told : Counts) (trace : List ℕ) : Type 0 where
+  pub makes : Makes settings old new told trace
+  pub some : 1 ≤ length makes.moves
+
+-- moves were made that write no text, and then one that is told by its report; by whom the last instruction before was made
+abbrev pub MakesTold : Settings → Moment → Option ℕ → Report → Moment → Type 0
+MakesTold settings old before report new =
+    MakesSome settings old new (added_by before new.last report.head) (switch_line before new.last ++ lines report new.state.memory)
+
+-- moves were made that write no text, and then one more, which may write some, or the run has ended
+abbrev pub Proceeds : Settings → Engine → Advance → Engine → Type 0
+Proceeds settings p Plain q = ⊥
+Proceeds settings p (Switched before) q =
+    MakesSome settings (moment_of p) (moment_of q) (added_by before q.last Quiet) (switch_line before q.last) × (q.stage ≡ Going)
+Proceeds settings p (Begun before) q = MakesTold settings (moment_of p) before (owed_of q).report (moment_of q) × (q.stage ≡ InCall)
+Proceeds settings p (End ending) q =
+    Makes settings (moment_of p) (moment_of q) no_counts [] × Ends settings (moment_of q) ending × ((position_of q).telling ≡ None)

@@ -1,4 +1,3 @@
-pub mod Program
 pub mod Engine
 pub mod Turns
 pub mod Advancing

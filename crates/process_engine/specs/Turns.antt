@@ -1,5 +1,5 @@
 -- What a turn and a whole run of a process do.
-use Rattle.std.specs.Prelude.{ℕ, ◌≡◌, ◌<◌, ◌⊎◌, List, [], Option, Some, None, Result, Ok, Err}
+use Rattle.std.specs.Prelude.{ℕ, ◌≡◌, ◌≤◌, ◌+◌, ◌⊎◌, List, [], Option, Some, None, Result, Ok, Err}
 use Rattle.replay_io.specs.Writing.{WritesWhole, WritesFront}
 use Rattle.trace_text.specs.Output.{IsReadable}
 use Rattle.posix_model.specs.Runs.{Moment, Allowed, Ends, make, moved}
@@ -11,50 +11,57 @@ use Rattle.posix_model.specs.declared.Move.{Move}
 use Rattle.posix_model.specs.declared.Head.TheVariants.{Quiet as QuietHead}
 use Rattle.posix_model.specs.declared.Report.{Report}
 use Rattle.trace_text.specs.Counting.{counts}
-use Rattle.process_engine.specs.Program.{built, program}
-use Rattle.process_engine.specs.Engine.{Course}
+use Rattle.process_engine.specs.Engine.{Position}
 use Rattle.process_engine.specs.declared.Turn.{Turn}
 use Rattle.process_engine.specs.declared.Turn.TheVariants.{Quiet, Made as MadeTurn, Ended}
 use Rattle.process_engine.specs.declared.Done.{Done}
 
--- what is to be told of a move: nothing, where it has no lines, and else its report
-abbrev pub Tells : Report → Course → Type 0
+-- what is to be told of a move: nothing, where it has no lines and none of it is left, and else its report, where
+-- 512 small changes of it are left at most
+abbrev pub Tells : Report → Position → Type 0
 Tells report new =
-    ((new.telling ≡ None) × (lines report new.now.state.memory ≡ []))
-    ⊎ ((new.telling ≡ Some report) × (report.head ≡ QuietHead → ⊥))
+    ((new.telling ≡ None) × (lines report new.now.state.memory ≡ []) × (new.left ≡ 0))
+    ⊎ ((new.telling ≡ Some report) × (report.head ≡ QuietHead → ⊥) × (1 ≤ new.left) × (new.left ≤ 512))
 
 -- one move is made that is allowed, with what is to be told of it; none was in progress
-pub record Moves (settings : Settings) (old new : Course) : Type 0 where
+pub record Moves (settings : Settings) (old new : Position) : Type 0 where
   pub at_rest : old.telling ≡ None
   pub move : Move
-  pub allowed : Allowed (program settings) old.now move
-  pub leads : new.now ≡ moved built old.now move
-  pub tells : Tells (make built old.now.state move).report new
+  pub allowed : Allowed settings old.now move
+  pub leads : new.now ≡ moved old.now move
+  pub tells : Tells (make old.now.state move).report new
 
--- the run and what is to be told of the move in progress stay, and less of it is left
-pub record Leaves (old new : Course) : Type 0 where
+-- one small change of the move in progress is made and is not the last: the run and what is to be told of the move stay
+pub record Leaves (old new : Position) : Type 0 where
   pub now : new.now ≡ old.now
   pub report : Report
   pub before : old.telling ≡ Some report
   pub telling : new.telling ≡ Some report
-  pub less : new.left < old.left
+  pub one : old.left ≡ new.left + 1
+  pub more : 1 ≤ new.left
 
--- the move in progress is told, and the run stays
-pub record Told (old : Course) (report : Report) (new : Course) : Type 0 where
+-- all that is left of the move in progress is made, and the move is told: the run stays
+pub record Completes (old : Position) (report : Report) (new : Position) : Type 0 where
   pub now : new.now ≡ old.now
   pub before : old.telling ≡ Some report
   pub telling : new.telling ≡ None
+  pub none : new.left ≡ 0
   pub readable : IsReadable report new.now.state.memory
 
+-- the same by one small change, the last one
+pub record Told (old : Position) (report : Report) (new : Position) : Type 0 where
+  pub completes : Completes old report new
+  pub last : old.left ≡ 1
+
 -- the run has ended, and nothing changes
-pub record Stops (settings : Settings) (old : Course) (ending : Ending) (new : Course) : Type 0 where
+pub record Stops (settings : Settings) (old : Position) (ending : Ending) (new : Position) : Type 0 where
   pub at_rest : old.telling ≡ None
-  pub ends : Ends (program settings) old.now ending
+  pub ends : Ends settings old.now ending
   pub same : new ≡ old
 
--- one turn makes one move that is allowed, or leaves the run, or tells the ending: Made comes exactly with the last
--- small change of a move that has lines, with its report, and Ended exactly where the run has ended
-abbrev pub IsTurn : Settings → Course → Turn → Course → Type 0
+-- one turn makes one move that is allowed, or one small change of the move in progress, or tells the ending: Made
+-- comes exactly with the last small change of a move, with its report, and Ended exactly where the run has ended
+abbrev pub IsTurn : Settings → Position → Turn → Position → Type 0
 IsTurn settings old Quiet new = Moves settings old new ⊎ Leaves old new
 IsTurn settings old (MadeTurn report) new = Told old report new
 IsTurn settings old (Ended ending) new = Stops settings old ending new
@@ -62,21 +69,21 @@ IsTurn settings old (Ended ending) new = Stops settings old ending new
 -- the whole text of one ended run was written, and its counts are told
 pub record RunsWhole (settings : Settings) (start : Moment) (done : Done) (before after : Option (List ℕ)) (faults_before faults_after : ℕ) : Type 0 where
   pub trace : List ℕ
-  pub whole : IsWholeText (program settings) start done.ending trace
-  pub counted : done.counts ≡ counts built start whole.moves
+  pub whole : IsWholeText settings start done.ending trace
+  pub counted : done.counts ≡ counts start whole.moves
   pub written : WritesWhole before after faults_before faults_after trace
 
 -- a front of the text of a run so far was written, and then the sink failed
 pub record RunsPart (settings : Settings) (start : Moment) (before after : Option (List ℕ)) (faults_before faults_after : ℕ) : Type 0 where
   pub trace : List ℕ
-  pub part : IsText (program settings) start trace
+  pub part : IsText settings start trace
   pub written : WritesFront before after faults_before faults_after trace
 
 -- a front of the whole text of one ended run was written, and then the sink failed
 pub record RunsFront (settings : Settings) (start : Moment) (before after : Option (List ℕ)) (faults_before faults_after : ℕ) : Type 0 where
   pub ending : Ending
   pub trace : List ℕ
-  pub whole : IsWholeText (program settings) start ending trace
+  pub whole : IsWholeText settings start ending trace
   pub written : WritesFront before after faults_before faults_after trace
 
 -- a run from a start as far as it went: whole at Ok, with its ending, and a front of one so far where the sink failed

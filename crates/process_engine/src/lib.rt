@@ -3,7 +3,7 @@
 
 mod moves;
 mod process;
-mod standing;
+mod stage;
 mod told;
 
 use posix_model::{Ending, Report};

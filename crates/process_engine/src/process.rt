@@ -6,34 +6,34 @@ ghost use Rattle.posix_model.specs.State.{none_pending};
 ghost use Rattle.posix_model.specs.Scheduling.{chosen};
 ghost use Rattle.replay_io.specs.Writing.{Writes};
 ghost use Rattle.trace_text.specs.Output.{IsReadable};
-ghost use Rattle.process_engine.specs.Engine.{Engine, course_of, moment_of, owed_of, order};
-ghost use Rattle.process_engine.specs.Turns.{IsTurn, Goes, Runs};
+ghost use Rattle.process_engine.specs.Engine.{Engine, position_of, moment_of, order};
+ghost use Rattle.process_engine.specs.Turns.{Completes, IsTurn, Goes, Runs};
 ghost use Rattle.process_engine.specs.Advancing.{Advances, Proceeds};
 ghost use Rattle.kernel_state.specs.View.{view};
 
-use crate::moves::begin_move;
-use crate::standing::{Came, Standing};
+use crate::moves::make_instruction;
+use crate::stage::{Advance, Stage};
 use crate::told::{is_thread, with_move};
 use crate::{Done, Turn, WriteFault};
 use elf_image::EntryPoint;
-use kernel_state::{Kernel, Stepped};
+use kernel_state::{Kernel, Stepped, Tables};
 use posix_model::{Ending, Head, Report, Settings};
 use ready_queues::PlainReady;
 use replay_io::{Sink, SinkFailed};
-use rv_exec::{Event, Memory};
+use rv_exec::Memory;
 use std::alloc::Global;
 use std::marker::Model;
 use thread_base::{NoMemory, Tid};
 use trace_text::{Counts, Mode, put_end, put_report, put_run};
 
-/// A process: its kernel, and what its run has come to. Clauses see its course: the run so far with the move in
-/// progress, what is still to be told of that move, and how much of it is left.
+/// A process: its kernel, and what its run has come to. Clauses see its position: the run so far with the move in
+/// progress, what is still to be told of that move, and how many small changes of it are left.
 #[derive(Drop)]
 pub struct Process {
     kernel: Kernel<PlainReady>,
-    made: u64,
+    instructions: u64,
     last: Option<Tid>,
-    standing: Standing,
+    stage: Stage,
     settings: Settings,
 }
 
@@ -42,9 +42,9 @@ impl Model for Process {
 
     ghost Value = { Engine };
 
-    ghost view = { λ p. record { kernel = p.kernel; made = p.made; last = p.last; standing = p.standing; settings = p.settings } };
+    ghost view = { λ p. record { kernel = p.kernel; instructions = p.instructions; last = p.last; stage = p.stage; settings = p.settings } };
 
-    ghost invariant = { λ p. IsSound (record { kernel = p.kernel; made = p.made; last = p.last; standing = p.standing; settings = p.settings }) };
+    ghost invariant = { λ p. IsSound (record { kernel = p.kernel; instructions = p.instructions; last = p.last; stage = p.stage; settings = p.settings }) };
 }
 
 impl Process {
@@ -59,147 +59,140 @@ impl Process {
         requires budget { settings.budget ≤ 1000000000 }
         requires quantum { (1 ≤ settings.quantum) × (settings.quantum ≤ 1000) }
         ensures start { IfOk result (λ p. moment_of p ≡ start mem entry.0) }
-        ensures at_rest { IfOk result (λ p. (course_of p).telling ≡ None) }
+        ensures at_rest { IfOk result (λ p. (position_of p).telling ≡ None) }
         ensures settings { IfOk result (λ p. p.settings ≡ settings) }
     {
         Ok(Process {
             kernel: Kernel::new(alloc, PlainReady::new(alloc)?, mem, entry, settings)?,
-            made: 0,
+            instructions: 0,
             last: None,
-            standing: Standing::Paused,
+            stage: Stage::Paused,
             settings,
         })
     }
 
     /// Makes the instruction of the thread in place, which has its turn, or begins its move.
     #[inline(always)]
-    fn instruction(&mut self) -> Came
-        requires { self.old.standing ≡ Standing.Going }
+    fn instruction(&mut self) -> Advance
+        requires { self.old.stage ≡ Stage.Going }
         ensures advances { Advances self.old result self.new }
         ensures settings { self.new.settings ≡ self.old.settings }
     {
-        if self.made == self.settings.budget {
-            return Came::End(Ending::Budget);
+        if self.instructions == self.settings.budget {
+            return Advance::End(Ending::Budget);
         }
-        self.made += 1;
-        match self.kernel.execute() {
-            Event::Next => Came::Plain,
-            event => {
-                let t = self.kernel.tables().placed();
-                begin_move(&mut self.kernel, t, event);
-                self.standing = Standing::InCall;
-                Came::Begun(self.last)
-            }
+        self.instructions += 1;
+        if make_instruction(&mut self.kernel) {
+            return Advance::Plain;
         }
+        self.stage = Stage::InCall;
+        Advance::Begun(self.last)
     }
 
     /// Makes the first instruction of a thread's turn, which is the chosen one, or begins its move.
-    fn switch_to(&mut self, t: Tid) -> Came
-        requires rest { self.old.standing ≡ Standing.Paused }
+    fn switch_to(&mut self, t: Tid) -> Advance
+        requires rest { self.old.stage ≡ Stage.Paused }
         requires calm { (view order self.old.kernel.tables).pending ≡ none_pending }
         requires going_on { (view order self.old.kernel.tables).over ≡ None }
         requires chosen { chosen (view order self.old.kernel.tables) ≡ Some t }
         ensures advances { Advances self.old result self.new }
+        ensures switched { result ≡ Advance.Plain → ⊥ }
         ensures settings { self.new.settings ≡ self.old.settings }
     {
-        if self.made == self.settings.budget {
-            return Came::End(Ending::Budget);
+        if self.instructions == self.settings.budget {
+            return Advance::End(Ending::Budget);
         }
         let before = self.last;
         self.kernel.place(t);
-        self.made += 1;
+        self.instructions += 1;
         self.last = Some(t);
-        match self.kernel.execute() {
-            Event::Next => {
-                self.standing = Standing::Going;
-                Came::Switched(before)
-            }
-            event => {
-                begin_move(&mut self.kernel, t, event);
-                self.standing = Standing::InCall;
-                Came::Begun(before)
-            }
+        if make_instruction(&mut self.kernel) {
+            self.stage = Stage::Going;
+            return Advance::Switched(before);
         }
+        self.stage = Stage::InCall;
+        Advance::Begun(before)
     }
 
     /// Sees how the run goes on: it is over, a fault's signal is delivered, nobody can go on, or the chosen
     /// thread has its turn.
-    fn resume(&mut self) -> Came
-        requires { self.old.standing ≡ Standing.Paused }
+    fn resume(&mut self) -> Advance
+        requires { self.old.stage ≡ Stage.Paused }
         ensures advances { Advances self.old result self.new }
+        ensures switched { result ≡ Advance.Plain → ⊥ }
         ensures settings { self.new.settings ≡ self.old.settings }
     {
         match self.kernel.tables().over() {
-            Some(ending) => return Came::End(ending),
+            Some(ending) => return Advance::End(ending),
             None => {}
         }
         match self.kernel.tables().fault() {
             Some(fault) => {
                 self.kernel.note_delivery(fault);
-                self.standing = Standing::InCall;
-                return Came::Begun(self.last);
+                self.stage = Stage::InCall;
+                return Advance::Begun(self.last);
             }
             None => {}
         }
         match self.kernel.tables().chosen() {
             Some(t) => self.switch_to(t),
-            None => Came::End(Ending::Idle),
+            None => Advance::End(Ending::Idle),
         }
     }
 
     /// Goes on by one move: a plain instruction is made, and another move begun.
     #[inline(always)]
-    fn advance(&mut self) -> Came
-        requires { (course_of self.old).telling ≡ None }
+    fn advance(&mut self) -> Advance
+        requires { (position_of self.old).telling ≡ None }
         ensures advances { Advances self.old result self.new }
         ensures settings { self.new.settings ≡ self.old.settings }
     {
-        match self.standing {
-            Standing::Going => self.instruction(),
-            Standing::Paused => self.resume(),
-            Standing::InCall => unreachable!(),
+        match self.stage {
+            Stage::Going => self.instruction(),
+            Stage::Paused => self.resume(),
+            Stage::InCall => unreachable!(),
         }
     }
 
     /// Makes plain instructions of the thread in place, up to its first other move or the end of the run.
     #[inline(always)]
-    fn run_turn(&mut self) -> Came
-        requires { self.old.standing ≡ Standing.Going }
-        ensures proceeds { Proceeds self.old result self.new }
+    fn run_turn(&mut self) -> Advance
+        requires { self.old.stage ≡ Stage.Going }
+        ensures proceeds { Proceeds self.old.settings self.old result self.new }
         ensures settings { self.new.settings ≡ self.old.settings }
     {
         loop {
             match self.instruction() {
-                Came::Plain => {}
-                came => return came,
+                Advance::Plain => {}
+                advance => return advance,
             }
         }
     }
 
     /// Goes on to the next move that may write text, or to the end of the run.
     #[inline(always)]
-    fn proceed(&mut self) -> Came
-        requires { (course_of self.old).telling ≡ None }
-        ensures proceeds { Proceeds self.old result self.new }
+    fn proceed(&mut self) -> Advance
+        requires { (position_of self.old).telling ≡ None }
+        ensures proceeds { Proceeds self.old.settings self.old result self.new }
         ensures settings { self.new.settings ≡ self.old.settings }
     {
-        match self.standing {
-            Standing::Going => self.run_turn(),
-            Standing::Paused => self.resume(),
-            Standing::InCall => unreachable!(),
+        match self.stage {
+            Stage::Going => self.run_turn(),
+            Stage::Paused => self.resume(),
+            Stage::InCall => unreachable!(),
         }
     }
 
     /// Makes the next small change of the move in progress.
     fn step(&mut self) -> Turn
-        requires { self.old.standing ≡ Standing.InCall }
-        ensures turn { IsTurn self.old.settings (course_of self.old) result (course_of self.new) }
+        requires { self.old.stage ≡ Stage.InCall }
+        ensures turn { IsTurn self.old.settings (position_of self.old) result (position_of self.new) }
         ensures settings { self.new.settings ≡ self.old.settings }
     {
         match self.kernel.step_move() {
             Stepped::More => Turn::Quiet,
             Stepped::Exit(report) => {
-                self.standing = Standing::Paused;
+                self.stage = Stage::Paused;
                 Turn::Made(report)
             }
         }
@@ -209,13 +202,13 @@ impl Process {
     /// with the last change of a move, with its report; Ended comes exactly where the run has ended; Quiet
     /// exactly where the turn completed no move with lines and told no ending.
     pub fn turn(&mut self) -> Turn
-        ensures turn { IsTurn self.old.settings (course_of self.old) result (course_of self.new) }
+        ensures turn { IsTurn self.old.settings (position_of self.old) result (position_of self.new) }
         ensures settings { self.new.settings ≡ self.old.settings }
     {
-        match self.standing {
-            Standing::InCall => self.step(),
+        match self.stage {
+            Stage::InCall => self.step(),
             _ => match self.advance() {
-                Came::End(ending) => Turn::Ended(ending),
+                Advance::End(ending) => Turn::Ended(ending),
                 _ => Turn::Quiet,
             },
         }
@@ -223,15 +216,12 @@ impl Process {
 
     /// Makes all that is left of the move in progress, and gives its report.
     fn finish(&mut self) -> Report
-        requires { self.old.standing ≡ Standing.InCall }
-        ensures report { result ≡ (owed_of self.old).report }
-        ensures now { moment_of self.new ≡ moment_of self.old }
-        ensures at_rest { self.new.standing ≡ Standing.Paused }
-        ensures readable { IsReadable result (moment_of self.new).state.memory }
+        requires { self.old.stage ≡ Stage.InCall }
+        ensures completes { Completes (position_of self.old) result (position_of self.new) }
         ensures settings { self.new.settings ≡ self.old.settings }
     {
         let report = self.kernel.finish();
-        self.standing = Standing::Paused;
+        self.stage = Stage::Paused;
         report
     }
 
@@ -249,12 +239,12 @@ impl Process {
         put_run(t, out)
     }
 
-    /// The memory of a process at rest.
-    fn memory(&self) -> &Memory
-        requires { self.now.standing ≡ Standing.Paused }
-        ensures { result.now ≡ (moment_of self.now).state.memory }
+    /// The tables, where no move is in progress.
+    fn tables(&self) -> &Tables<PlainReady>
+        requires { (position_of self.now).telling ≡ None }
+        ensures { view order result.now ≡ (moment_of self.now).state }
     {
-        self.kernel.tables().memory()
+        self.kernel.tables()
     }
 
     /// Writes the text of a move that was made with this report.
@@ -266,37 +256,37 @@ impl Process {
         out: &mut O,
     ) -> Result<(), SinkFailed>
         requires readable { IsReadable report.now (moment_of self.now).state.memory }
-        requires at_rest { self.now.standing ≡ Standing.Paused }
+        requires at_rest { (position_of self.now).telling ≡ None }
         ensures { Writes result (O.written out.old) (O.written out.new) (O.faults out.old) (O.faults out.new) (switch_line before.now self.now.last ++ lines report.now (moment_of self.now).state.memory) }
     {
         self.put_switch(before, out)?;
-        put_report(report, self.memory(), mode, out)
+        put_report(report, self.tables().memory(), mode, out)
     }
 
     /// Makes the rest of the run and writes its text.
     fn run_on<O: Sink>(&mut self, out: &mut O, mode: Mode) -> Result<Done, SinkFailed>
-        requires at_rest { (course_of self.old).telling ≡ None }
+        requires at_rest { (position_of self.old).telling ≡ None }
         requires limit { self.old.settings.budget ≤ 1000000000 }
         ensures { Goes self.old.settings (moment_of self.old) result (O.written out.old) (O.written out.new) (O.faults out.old) (O.faults out.new) }
     {
-        let first = self.made;
+        let first = self.instructions;
         let mut told = Counts::none();
         loop {
             match self.proceed() {
-                Came::Plain => {}
-                Came::Switched(before) => {
+                Advance::Plain => unreachable!(),
+                Advance::Switched(before) => {
                     told = with_move(told, &before, &self.last, &Head::Quiet);
                     self.put_switch(&before, out)?;
                 }
-                Came::Begun(before) => {
+                Advance::Begun(before) => {
                     let report = self.finish();
                     told = with_move(told, &before, &self.last, &report.head);
                     self.put_made(&before, &report, mode, out)?;
                 }
-                Came::End(ending) => {
-                    put_end(&ending, &[0; 32], out)?;
+                Advance::End(ending) => {
+                    put_end(&ending, &self.tables().left(), out)?;
                     let counts = Counts {
-                        instructions: self.made - first,
+                        instructions: self.instructions - first,
                         ..told
                     };
                     return Ok(Done { ending, counts });
@@ -309,11 +299,11 @@ impl Process {
     /// of one ended run and tells its ending and counts; WriteFault comes only where the sink's count of faults
     /// rose in this call, and then a front of the whole text of one ended run was appended. It takes no memory.
     pub fn run<O: Sink>(mut self, out: &mut O, mode: Mode) -> Result<Done, WriteFault>
-        requires { (course_of self).telling ≡ None }
+        requires { (position_of self).telling ≡ None }
         ensures { Runs self.settings (moment_of self) result (O.written out.old) (O.written out.new) (O.faults out.old) (O.faults out.new) }
     {
         // opened, so that its count is known to be within the budget
-        let _made = &self.made;
+        let _instructions = &self.instructions;
         match self.run_on(out, mode) {
             Ok(done) => Ok(done),
             Err(SinkFailed) => Err(WriteFault),

@@ -1,4 +1,4 @@
-ghost use Rattle.std.specs.Prelude.{◌≡◌, ◌≤◌};
+ghost use Rattle.std.specs.Prelude.{◌≡◌, ◌≤◌, ◌+◌};
 ghost use Rattle.posix_model.specs.Trace.{is_last};
 ghost use Rattle.trace_text.specs.Counting.{is_call as is_call_line, is_delivery as is_delivery_line, is_switch as is_switch_line, plus, told_by};
 
@@ -53,7 +53,7 @@ pub(crate) fn with_move(
     after: &Option<Tid>,
     head: &Head,
 ) -> Counts
-    requires { (told.calls ≤ 2000000001) × (told.deliveries ≤ 2000000001) × (told.switches ≤ 2000000001) }
+    requires { told.calls + told.deliveries + told.switches ≤ 6000000003 }
     ensures { result ≡ plus told (told_by before.now after.now head.now) }
 {
     Counts {

@@ -6,7 +6,6 @@ use Rattle.replay_io.specs.Writing.{Appended, AppendedFront}
 use Rattle.posix_model.specs.Runs.{Moment}
 use Rattle.posix_model.specs.Start as machine
 use Rattle.posix_model.specs.Trace.{IsWholeText}
-use Rattle.process_engine.specs.Program.{program}
 use Rattle.posix_model.specs.declared.Settings.{Settings}
 use Rattle.posix_model.specs.declared.Ending.{Ending}
 
@@ -30,20 +29,20 @@ pub record IsStartOf (image : List ℕ) (start : Moment) : Type 0 where
   pub holds : IsStart image (segments_of image) memory_size memory
   pub begins : start ≡ machine.start memory (e_entry image)
 
--- the text of one whole run from an image came behind what was written before; its last line names the ending
+-- the text of one whole run from an image came after what was written before; its last line names the ending
 pub record WritesRunOf (image : List ℕ) (before after : Option (List ℕ)) : Type 0 where
   pub start : Moment
   pub of_image : IsStartOf image start
   pub ending : Ending
   pub trace : List ℕ
-  pub whole : IsWholeText (program default_settings) start ending trace
+  pub whole : IsWholeText default_settings start ending trace
   pub told : Appended before after trace
 
--- a front of the text of one whole run from an image came behind what was written before
+-- a front of the text of one whole run from an image came after what was written before
 pub record WritesFrontOf (image : List ℕ) (before after : Option (List ℕ)) : Type 0 where
   pub start : Moment
   pub of_image : IsStartOf image start
   pub ending : Ending
   pub trace : List ℕ
-  pub whole : IsWholeText (program default_settings) start ending trace
+  pub whole : IsWholeText default_settings start ending trace
   pub told : AppendedFront before after trace

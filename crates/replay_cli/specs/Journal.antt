@@ -7,7 +7,7 @@ use Rattle.replay_cli.specs.declared.journal.JournalRefusal.TheVariants.{TooLong
 abbrev pub header : List ℕ
 header = codes "fsu-journal 1\n"
 
--- the first refusal of a journal: of too many bytes, of another first line, and of any byte behind it
+-- the first refusal of a journal: of too many bytes, of another first line, and of any byte after it
 unfoldable pub first_bad : List ℕ → Option JournalRefusal
 first_bad bytes =
     if nat_lt 16777216 (length bytes) then Some TooLong

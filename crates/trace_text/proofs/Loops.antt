@@ -29,7 +29,7 @@ pub parts_done : (part : ℕ → List ℕ) (first n i : ℕ) → n ≤ i → par
 unfolding parts_from
 parts_done part first n i h = let e : n - i ≡ 0 = omega arith in ap (λ k. flat_map part (range_with_len (first + i) k)) e
 
--- the digits of a piece, and those behind it
+-- the digits of a piece, and those after it
 pub hex_piece : (bytes : List ℕ) (from count n : ℕ) → n ≡ count → hex (drop from bytes) ≡ hex (take n (drop from bytes)) ++ hex (drop (from + count) bytes)
 hex_piece bytes from count n e =
     sym (ap hex (take-append-drop n (drop from bytes)))

@@ -1,6 +1,5 @@
 -- How much of each kind a run does (this project's own).
 use Rattle.std.specs.Prelude.{ℕ, ◌+◌, Bool, true, false, not, if◌then◌else◌, List, [], ◌∷◌, Option, Some, None}
-use Rattle.posix_model.specs.Built.{Built}
 use Rattle.posix_model.specs.Runs.{Moment, make, moved}
 use Rattle.posix_model.specs.Trace.{is_last}
 use Rattle.posix_model.specs.declared.Move.{Move}
@@ -43,21 +42,21 @@ is_switch before None = false
 is_switch before (Some t) = not (is_last t before)
 
 -- what one move adds
-abbrev pub counted : Built → Moment → Move → Counts
-counted built now (Instr tid) = record {
+abbrev pub counted : Moment → Move → Counts
+counted now (Instr tid) = record {
   instructions = 1;
-  calls = one_if (is_call (make built now.state (Instr tid)).report.head);
+  calls = one_if (is_call (make now.state (Instr tid)).report.head);
   arrivals = 0;
   deliveries = 0;
-  switches = one_if (is_switch now.last (moved built now (Instr tid)).last);
+  switches = one_if (is_switch now.last (moved now (Instr tid)).last);
 }
-counted built now (Arrive first count at) = record no_counts { arrivals = 1 }
-counted built now Deliver = record no_counts { deliveries = 1 }
+counted now (Arrive first count at) = record no_counts { arrivals = 1 }
+counted now Deliver = record no_counts { deliveries = 1 }
 
 -- what a list of moves did
-abbrev pub counts : Built → Moment → List Move → Counts
-counts built now [] = no_counts
-counts built now (move ∷ moves) = plus (counted built now move) (counts built (moved built now move) moves)
+abbrev pub counts : Moment → List Move → Counts
+counts now [] = no_counts
+counts now (move ∷ moves) = plus (counted now move) (counts (moved now move) moves)
 
 -- what was told of a run: all but the instructions
 abbrev pub told_of : Counts → Counts

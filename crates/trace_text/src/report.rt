@@ -233,7 +233,7 @@ fn put_threads<O: Sink>(r: &Report, out: &mut O) -> Result<(), SinkFailed>
     put_all_done(r, out)
 }
 
-/// Writes the lines of a move behind what it wrote.
+/// Writes the lines of a move after what it wrote.
 fn put_rest<O: Sink>(r: &Report, out: &mut O) -> Result<(), SinkFailed>
     ensures { Writes result (O.written out.old) (O.written out.new) (O.faults out.old) (O.faults out.new) (signal_lines r.now ++ thread_lines r.now) }
 {

@@ -1,18 +1,25 @@
-use Rattle.std.proofs.Common.{refl, arith, None}
+use Rattle.std.proofs.Common.{◌∙◌, subst, sym, arith, None}
+use Rattle.posix_model.specs.Good.{IsGood}
 use Rattle.process_engine.specs.Engine.{Engine}
-use Rattle.process_engine.specs.declared.standing.Standing.TheVariants.{Paused}
-use Rattle.process_engine.proofs.CallLemmas.{sound_at_rest, starts, start_settled}
+use Rattle.process_engine.specs.declared.stage.Stage.TheVariants.{Paused}
+use Rattle.process_engine.proofs.EngineLemmas.{moment_state}
 use Rattle.process_engine.proofs.process.Process.new.Goals as goal
 
 pub invariant_of-result : goal.invariant_of-result
 invariant_of-result c =
     let start = c.in_ok-new-2.ensures in
-    let q : Engine = record { kernel = c.in_ok-new-2.field-0; made = 0; last = None; standing = Paused; settings = c.args.settings } in
-    sound_at_rest q (omega arith) c.requires.budget (record { idle = start.idle; untold = start.untold }) start.ready.good
-    (start_settled _ c.args.mem c.args.entry.0 start.start) start.current refl
+    let q : Engine = record { kernel = c.in_ok-new-2.field-0; instructions = 0; last = None; stage = Paused; settings = c.args.settings } in
+    record {
+      within = omega arith;
+      limit = c.requires.budget;
+      good = subst IsGood (sym (moment_state q start.idle)) start.ready.good;
+      current = start.current;
+      stands = record { idle = start.idle; untold = start.untold };
+    }
 
 pub returns-clause-start : goal.returns-clause-start
 returns-clause-start c =
     let start = c.in_ok-new-2.ensures in
-    let q : Engine = record { kernel = c.in_ok-new-2.field-0; made = 0; last = None; standing = Paused; settings = c.args.settings } in
-    starts q c.args.mem c.args.entry.0 start.idle start.start refl refl
+    let q : Engine = record { kernel = c.in_ok-new-2.field-0; instructions = 0; last = None; stage = Paused; settings = c.args.settings } in
+    let state = moment_state q start.idle ∙ start.start in
+    λ i. record { state = state i; instructions = 0; last = None }

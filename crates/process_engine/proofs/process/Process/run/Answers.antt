@@ -6,4 +6,4 @@ use Rattle.process_engine.proofs.process.Process.run.Goals as goal
 pub returns : goal.returns
 returns g c =
     part_front c.args.self.settings (moment_of c.args.self) _ _ _ _
-    (subst (λ (p : Engine). p.made ≤ p.settings.budget) c.self.view_is c.self.invariant.within) c.in-Err.ensures
+    (subst (λ (p : Engine). p.instructions ≤ p.settings.budget) c.self.view_is c.self.invariant.within) c.in-Err.ensures

@@ -1,18 +1,19 @@
-use Rattle.std.proofs.Common.{◌∙◌}
-use Rattle.posix_model.specs.Runs.{Moment}
-use Rattle.process_engine.specs.Engine.{moment_of}
-use Rattle.process_engine.proofs.RunLemmas.{silent_one, same_allowed}
+use Rattle.std.proofs.Common.{◌∙◌, ap, sym}
+use Rattle.process_engine.specs.Engine.{owed_of, telling_of}
+use Rattle.process_engine.proofs.RunLemmas.{plain_too, proceeds}
 use Rattle.process_engine.proofs.process.Process.run_turn.Goals as goal
 
-pub loop-came-preserved : goal.loop-came-preserved
-loop-came-preserved c =
-    let settings = c.args.self.now.settings in
-    let start : Moment = moment_of c.args.self.now in
-    let now : Moment = moment_of c.loop-came.self in
-    let new : Moment = moment_of c.instruction.new.self in
+pub loop-advance-preserved : goal.loop-advance-preserved
+loop-advance-preserved c =
+    let now = c.loop-advance.invariant in
     let plain = c.in-Plain.ensures.advances in (
-      c.in-Plain.ensures.settings ∙ c.loop-came.invariant.0,
-      plain.0.standing,
-      silent_one settings start now new plain.0.move c.loop-came.invariant.2
-          (same_allowed c.loop-came.self.settings settings now plain.0.move c.loop-came.invariant.0 plain.0.allowed) plain.0.leads plain.0.silent plain.1 plain.0.counts,
+      c.in-Plain.ensures.settings ∙ now.0,
+      plain.0.stage,
+      plain_too c.args.self.now.settings c.args.self.now c.loop-advance.self c.instruction.new.self now.2 (sym now.0) plain,
     )
+
+pub returns-in_default-clause-proceeds : goal.returns-in_default-clause-proceeds
+returns-in_default-clause-proceeds c =
+    let now = c.loop-advance.invariant in
+    let rest = ap (λ s. telling_of s (owed_of c.loop-advance.self).report) now.1 in
+    proceeds c.args.self.now.settings c.args.self.now c.loop-advance.self c.instruction.new.self now.2 (sym now.0) c.instruction.result rest c.in_default.not-Plain c.instruction.ensures.advances

@@ -1,44 +1,51 @@
-use Rattle.std.proofs.Common.{◌∙◌, ap, subst, inr}
-use Rattle.process_engine.specs.Engine.{Engine, course_of}
-use Rattle.process_engine.specs.declared.standing.Standing.TheVariants.{Paused}
+use Rattle.std.proofs.Common.{◌∙◌, ap, subst, inr, length}
+use Rattle.process_engine.specs.Engine.{Engine, position_of}
 use Rattle.process_engine.specs.Turns.{Leaves, Told}
+use Rattle.process_engine.specs.declared.stage.Stage.TheVariants.{Paused}
 use Rattle.process_engine.specs.contracts.process.Process.{the_view}
-use Rattle.process_engine.proofs.CallLemmas.{finish_keeps, completes, leaves}
+use Rattle.process_engine.proofs.StepLemmas.{step_sound, leaves, finish_sound, completes}
 use Rattle.process_engine.proofs.process.Process.step.Goals as goal
+
+pub invariant_of-self : goal.invariant_of-self
+invariant_of-self c =
+    let calling = ap (λ (x : Engine). x.stage) c.self.view_is ∙ c.requires in
+    step_sound (the_view c.self.inside) c.step_move.new.self c.self.invariant calling c.step_move.ensures.current c.in-More.ensures.step
 
 pub invariant_of-self-in-Exit : goal.invariant_of-self-in-Exit
 invariant_of-self-in-Exit c =
-    let p = the_view c.self.inside in
-    let calling = ap (λ (x : Engine). x.standing) c.self.view_is ∙ c.requires in
-    let last = c.in-Exit.ensures.step in
-    finish_keeps p c.step_move.new.self c.in-Exit.report c.self.invariant calling last.1 last.2 last.0 last.3 c.step_move.ensures.current
+    let calling = ap (λ (x : Engine). x.stage) c.self.view_is ∙ c.requires in
+    let told = c.in-Exit.ensures.step.0 in
+    let last = c.in-Exit.ensures.step.1 in
+    finish_sound (the_view c.self.inside) c.step_move.new.self c.self.invariant calling c.step_move.ensures.current c.in-Exit.report last.view_is told last.idle last.untold
 
 pub returns-in-More-clause-turn : goal.returns-in-More-clause-turn
 returns-in-More-clause-turn c =
-    let p = the_view c.self.inside in
-    let calling = ap (λ (x : Engine). x.standing) c.self.view_is ∙ c.requires in
+    let calling = ap (λ (x : Engine). x.stage) c.self.view_is ∙ c.requires in
     let q : Engine = record {
       kernel = c.step_move.new.self;
-      made = c.self.inside.made;
+      instructions = c.self.inside.instructions;
       last = c.self.inside.last;
-      standing = c.self.inside.standing;
+      stage = c.self.inside.stage;
       settings = c.self.inside.settings;
     } in
     inr (
-    subst (λ x. Leaves (course_of x) (course_of q)) c.self.view_is
-    (leaves p c.step_move.new.self c.self.invariant calling c.in-More.ensures.step c.step_move.ensures.current))
+    subst (λ x. Leaves (position_of x) (position_of q)) c.self.view_is
+    (leaves (the_view c.self.inside) c.step_move.new.self c.self.invariant calling c.step_move.ensures.current c.in-More.ensures.step))
 
 pub returns-in-Exit-clause-turn : goal.returns-in-Exit-clause-turn
 returns-in-Exit-clause-turn c =
-    let p = the_view c.self.inside in
-    let calling = ap (λ (x : Engine). x.standing) c.self.view_is ∙ c.requires in
-    let last = c.in-Exit.ensures.step in
+    let calling = ap (λ (x : Engine). x.stage) c.self.view_is ∙ c.requires in
+    let told = c.in-Exit.ensures.step.0 in
+    let last = c.in-Exit.ensures.step.1 in
     let q : Engine = record {
       kernel = c.step_move.new.self;
-      made = c.self.inside.made;
+      instructions = c.self.inside.instructions;
       last = c.self.inside.last;
-      standing = Paused;
+      stage = Paused;
       settings = c.self.inside.settings;
     } in
-    subst (λ x. Told (course_of x) c.in-Exit.report (course_of q)) c.self.view_is
-    (completes p c.step_move.new.self c.in-Exit.report c.self.invariant calling last.1 last.2 last.0 last.3)
+    subst (λ x. Told (position_of x) c.in-Exit.report (position_of q)) c.self.view_is
+    (record {
+      completes = completes (the_view c.self.inside) c.step_move.new.self c.self.invariant calling c.step_move.ensures.current c.in-Exit.report last.view_is told last.idle last.untold;
+      last = ap length last.last;
+    })

@@ -1,0 +1,278 @@
+-- A process at rest and in a move, and its first instruction of a move.
+use Rattle.std.proofs.Common.{◌≡◌, ◌∙◌, ap, sym, refl, subst, inl, inr, ℕ, ◌+◌, ◌≤◌, true, false, List, [], ◌∷◌, length, drop, Option, Some, None, arith}
+use Rattle.thread_base.specs.Orders.{is_nil}
+use Rattle.thread_base.specs.Priority.{tids}
+use Rattle.ready_queues.specs.Queue.{Queue, level_of}
+use Rattle.posix_model.specs.State.{State, none_pending}
+use Rattle.posix_model.specs.Scheduling.{chosen}
+use Rattle.posix_model.specs.Good.{IsGood}
+use Rattle.posix_model.specs.Changes.{Outcome}
+use Rattle.posix_model.specs.Deliveries.{next_delivery, delivered, deliver}
+use Rattle.posix_model.specs.Instructions.{instruction}
+use Rattle.posix_model.specs.Reports.{nothing_told}
+use Rattle.posix_model.specs.Runs.{Moment, Allowed, IsTurnOf, IsIdle as IsIdleState, Ends, make, moved}
+use Rattle.posix_model.specs.Lines.{lines, head_line, alarm_line, out_line, took_line, count_lines, sig_numbers, gone_line, done_lines, done_line}
+use Rattle.posix_model.specs.declared.Ending.{Ending}
+use Rattle.posix_model.specs.declared.Ending.TheVariants.{Budget, Idle}
+use Rattle.posix_model.specs.declared.Head.{Head}
+use Rattle.posix_model.specs.declared.Head.TheVariants.{Quiet, Deliver as DeliverHead}
+use Rattle.posix_model.specs.declared.Move.{Move}
+use Rattle.posix_model.specs.declared.Move.TheVariants.{Instr, Arrive, Deliver}
+use Rattle.posix_model.specs.declared.Report.{Report}
+use Rattle.posix_model.specs.declared.Settings.{Settings}
+use Rattle.posix_model.proofs.DeliveryLemmas.{next_none}
+use Rattle.posix_model.proofs.GoodMoves.{goodness}
+use Rattle.trace_text.specs.Counting.{is_delivery, counted, told_of, told_by as added_by}
+use Rattle.kernel_state.specs.View.{view, outcome, AreCurrent, StayCurrent}
+use Rattle.kernel_state.specs.Changing.{owed}
+use Rattle.kernel_state.specs.Moves.{left, IsIdle, owed_by}
+use Rattle.kernel_state.specs.Begun.{IsBegun}
+use Rattle.kernel_state.specs.declared.change.Change.{Change}
+use Rattle.kernel_state.specs.declared.kernel.Kernel.{Kernel}
+use Rattle.kernel_state.specs.declared.rest.Rest.{Rest}
+use Rattle.process_engine.specs.Engine.{Engine, order, owed_of, moment_of, position_of, telling_of, IsAtRest, HasTurn, Stands, IsSound}
+use Rattle.process_engine.specs.Advancing.{HasGoneOn, HasBegun, BeginsInstruction, MakesPlain, BeginsMove, HasEnded, Advances}
+use Rattle.process_engine.specs.declared.stage.Advance.TheVariants.{Plain, Switched, Begun}
+use Rattle.process_engine.specs.declared.stage.Stage.{Stage}
+use Rattle.process_engine.specs.declared.stage.Stage.TheVariants.{Going, Paused, InCall}
+use Rattle.process_engine.proofs.CountLemmas.{instruction_counts, delivery_counts}
+use Rattle.process_engine.proofs.InstructionLemmas.{has_begun}
+
+-- at rest nothing is left, and nothing is owed
+idle_left : (rest : Rest) → IsIdle rest → left rest ≡ []
+idle_left rest idle = λ i. drop (idle.first i) (idle.none i)
+
+pub none_left : (rest : Rest) → IsIdle rest → length (left rest) ≡ 0
+none_left rest idle = ap length (idle_left rest idle)
+
+pub some_left : (changes : List Change) → is_nil changes ≡ false → 1 ≤ length changes
+some_left [] e = absurd (let h : true ≡ false = e in cc)
+some_left (change ∷ rest) e = omega arith
+
+pub owed_state : (p : Engine) → (owed_of p).state ≡ (owed_by order p.kernel).state
+unfolding owed_of
+owed_state p = refl
+
+pub moment_state : (p : Engine) → IsIdle p.kernel.rest → (moment_of p).state ≡ view order p.kernel.tables
+unfolding outcome
+moment_state p idle = owed_state p ∙ ap (λ xs. (owed (outcome order p.kernel.tables) xs).state) (idle_left p.kernel.rest idle)
+
+-- what the stage of a process says
+pub stands_at : (p : Engine) (stage : Stage) → IsSound p → p.stage ≡ stage → Stands order p.kernel p.last stage
+stands_at p stage sound e = subst (Stands order p.kernel p.last) e sound.stands
+
+rests_at : (stage : Stage) (k : Kernel Queue) (last : Option ℕ) (report : Report) → Stands order k last stage → telling_of stage report ≡ None → IsAtRest k
+rests_at Going k last report stands e = stands.0
+rests_at Paused k last report stands e = stands
+rests_at InCall k last report stands e = absurd (let h : Some report ≡ None = e in cc)
+
+pub rest_stands : (p : Engine) → IsSound p → (position_of p).telling ≡ None → IsAtRest p.kernel
+rest_stands p sound e = rests_at p.stage p.kernel p.last (owed_of p).report sound.stands e
+
+pub good_at_rest : (p : Engine) → IsSound p → IsAtRest p.kernel → IsGood (view order p.kernel.tables)
+good_at_rest p sound rest = subst IsGood (moment_state p rest.idle) sound.good
+
+-- a process after a move is sound, and so is one whose run stays
+within_budget : (settings : Settings) (now : Moment) (move : Move) → Allowed settings now move → now.instructions ≤ settings.budget → (moved now move).instructions ≤ settings.budget
+within_budget settings now (Instr t) allowed within = let less = allowed.1 in omega (arith, less)
+within_budget settings now (Arrive first count at) allowed within = absurd allowed
+within_budget settings now Deliver allowed within = within
+
+module _ (p q : Engine) (sound : IsSound p) (settings : q.settings ≡ p.settings) (current : StayCurrent order level_of p.kernel.tables q.kernel.tables)
+    (stands : Stands order q.kernel q.last q.stage) where
+  sound_at : (now : Moment) → moment_of q ≡ now → now.instructions ≤ p.settings.budget → IsGood now.state → IsSound q
+  sound_at now is within good =
+      let budget = ap (λ (x : Settings). x.budget) settings in
+      let instructions = ap (λ (x : Moment). x.instructions) is in
+      let limit = sound.limit in
+      record {
+        within = omega (arith, budget, instructions, within);
+        limit = omega (arith, budget, limit);
+        good = subst (λ (x : Moment). IsGood x.state) (sym is) good;
+        current = current sound.current;
+        stands = stands;
+      }
+
+  pub sound_same : moment_of q ≡ moment_of p → IsSound q
+  sound_same same = sound_at (moment_of p) same sound.within sound.good
+
+  pub sound_moved : (move : Move) → Allowed p.settings (moment_of p) move → moment_of q ≡ moved (moment_of p) move → IsSound q
+  sound_moved move allowed leads =
+      sound_at (moved (moment_of p) move) leads (within_budget p.settings (moment_of p) move allowed sound.within)
+      (goodness.1 p.settings (moment_of p) move sound.good allowed)
+
+-- a thread is chosen, and has its turn
+pub record Turn (p : Engine) (t : ℕ) : Type 0 where
+  pub rest : IsAtRest p.kernel
+  pub going_on : (view order p.kernel.tables).over ≡ None
+  pub calm : (view order p.kernel.tables).pending ≡ none_pending
+  pub first : chosen (view order p.kernel.tables) ≡ Some t
+
+pub going_turn : (p : Engine) → IsSound p → p.stage ≡ Going → Turn p p.kernel.tables.placed × (p.last ≡ Some p.kernel.tables.placed)
+going_turn p sound e =
+    let on = stands_at p Going sound e in
+    (record { rest = on.0; going_on = on.1.going_on; calm = on.1.calm; first = on.1.first }, on.2)
+
+pub chosen_turn : (p old : Engine) (t : ℕ) → p ≡ old → IsSound p → old.stage ≡ Paused → (view order old.kernel.tables).over ≡ None → (view order old.kernel.tables).pending ≡ none_pending
+    → chosen (view order old.kernel.tables) ≡ Some t → Turn p t
+chosen_turn p old t is sound paused over calm first =
+    subst (λ x. Turn x t) (sym is) (record { rest = stands_at old Paused (subst IsSound is sound) paused; going_on = over; calm = calm; first = first })
+
+-- the chosen thread is put in place
+module _ (p : Engine) (t : ℕ) (sound : IsSound p) (turn : Turn p t) (k : Kernel Queue) (same : view order k.tables ≡ view order p.kernel.tables) (placed : k.tables.placed ≡ t)
+    (told : k.tables.report ≡ p.kernel.tables.report) (others : k ≡ record p.kernel { tables = k.tables }) where
+  pub placed_rest : IsAtRest k
+  placed_rest = record { idle = subst IsIdle (sym (ap (λ (x : Kernel Queue). x.rest) others)) turn.rest.idle; untold = told ∙ turn.rest.untold }
+
+  pub placed_turn : HasTurn order k × IsGood (view order k.tables)
+  placed_turn =
+      let over = ap (λ (s : State). s.over) same ∙ turn.going_on in
+      let calm = ap (λ (s : State). s.pending) same ∙ turn.calm in
+      let first = ap chosen same ∙ turn.first ∙ ap Some (sym placed) in
+      (record { going_on = over; calm = calm; first = first }, subst IsGood (sym same) (good_at_rest p sound turn.rest))
+
+-- where nothing pends, no delivery is next
+calm_next : (s : State) → s.pending ≡ none_pending → next_delivery s ≡ None
+calm_next s calm = next_none s (λ t sig. ap (λ (m : ℕ → ℕ → ℕ). m t sig) calm)
+
+turn_of : (p : Engine) (t : ℕ) → Turn p t → IsTurnOf (moment_of p).state t
+turn_of p t turn =
+    subst (λ s. IsTurnOf s t) (sym (moment_state p turn.rest.idle))
+    (record { going_on = turn.going_on; settled = calm_next (view order p.kernel.tables) turn.calm; first = turn.first })
+
+-- the run has ended
+has_ended : (p old : Engine) (ending : Ending) → p ≡ old → Ends p.settings (moment_of p) ending → HasEnded old old ending
+has_ended p old ending is ends = subst (λ x. HasEnded x x ending) is (record { ends = ends; same = refl })
+
+pub is_over : (p old : Engine) (ending : Ending) → p ≡ old → IsAtRest p.kernel → (view order p.kernel.tables).over ≡ Some ending → HasEnded old old ending
+is_over p old ending is rest over = has_ended p old ending is (inl (ap (λ (s : State). s.over) (moment_state p rest.idle) ∙ over))
+
+pub is_idle : (p old : Engine) → p ≡ old → IsAtRest p.kernel → (view order p.kernel.tables).over ≡ None → (view order p.kernel.tables).pending ≡ none_pending
+    → chosen (view order p.kernel.tables) ≡ None → HasEnded old old Idle
+is_idle p old is rest over calm nobody =
+    let s = view order p.kernel.tables in
+    let idle : IsIdleState s = record { going_on = over; settled = calm_next s calm; nobody = nobody } in
+    has_ended p old Idle is (inr (inl (refl, subst IsIdleState (sym (moment_state p rest.idle)) idle)))
+
+pub is_spent : (p old : Engine) (t : ℕ) → p ≡ old → Turn p t → p.instructions ≡ p.settings.budget → HasEnded old old Budget
+is_spent p old t is turn spent = has_ended p old Budget is (inr (inr (refl, record { used_up = spent; tid = t; turn = turn_of p t turn })))
+
+-- a move was begun
+module _ (p q : Engine) (move : Move) (g : Outcome) (has : HasBegun order q.kernel g) (made : g ≡ make (moment_of p).state move) (allowed : Allowed p.settings (moment_of p) move)
+    (stage : q.stage ≡ InCall) where
+  owed_is : owed_of q ≡ g
+  unfolding owed_of
+  owed_is = has.owed
+
+  state_is : (owed_of q).state ≡ (make (moment_of p).state move).state
+  state_is = ap (λ (x : Outcome). x.state) (owed_is ∙ made)
+
+  begins : moment_of q ≡ moved (moment_of p) move → told_of (counted (moment_of p) move) ≡ added_by p.last q.last g.report.head → BeginsMove p q
+  begins leads counts = record {
+    makes = record { move = move; allowed = allowed; leads = leads; counts = counts ∙ ap (λ (x : Outcome). added_by p.last q.last x.report.head) (sym owed_is) };
+    told = ap (λ (x : Outcome). x.report) (owed_is ∙ made);
+    main = λ h. has.main (sym (ap (λ (x : Outcome). x.report.head) owed_is) ∙ h);
+    stage = stage;
+    some = some_left (left q.kernel.rest) has.call.begun;
+    few = has.few;
+  }
+
+-- a plain instruction has no lines
+no_lines : (t : ℕ) (memory : List ℕ) → lines (record nothing_told { tid = t }) memory ≡ []
+unfolding lines head_line alarm_line out_line took_line count_lines sig_numbers gone_line done_lines done_line tids nothing_told
+no_lines t memory = refl
+
+quiet_head : (t : ℕ) → (record nothing_told { tid = t }).head ≡ Quiet
+unfolding nothing_told
+quiet_head t = refl
+
+-- the chosen thread is in place, and its instruction is made or begun
+module _ (p old : Engine) (is : p ≡ old) (t : ℕ) (sound : IsSound p) (turn : Turn p t) (other : p.instructions ≡ p.settings.budget → ⊥) where
+  allowed_here : Allowed p.settings (moment_of p) (Instr t)
+  allowed_here = (turn_of p t turn, (let within = sound.within in omega (arith, within, other)))
+
+  module _ (k l : Kernel Queue) (same : view order k.tables ≡ view order p.kernel.tables) (placed : k.tables.placed ≡ t) (current : StayCurrent order level_of p.kernel.tables l.tables)
+      (last : Option ℕ) (by : last ≡ Some t) where
+    abbrev at : Stage → Engine
+    at stage = record { kernel = l; instructions = p.instructions + 1; last = last; stage = stage; settings = p.settings }
+
+    made_is : instruction (view order k.tables) k.tables.placed ≡ instruction (moment_of p).state t
+    made_is = λ i. instruction ((same ∙ sym (moment_state p turn.rest.idle)) i) (placed i)
+
+    leads_to : (stage : Stage) → (owed_of (at stage)).state ≡ (instruction (moment_of p).state t).state → moment_of (at stage) ≡ moved (moment_of p) (Instr t)
+    leads_to stage state = λ i. record { state = state i; instructions = p.instructions + 1; last = by i }
+
+    adds : (head : Head) → (instruction (view order k.tables) k.tables.placed).report.head ≡ head → is_delivery head ≡ false
+        → told_of (counted (moment_of p) (Instr t)) ≡ added_by p.last last head
+    adds head tells none = instruction_counts (moment_of p) t last head by (sym (ap (λ (g : Outcome). g.report.head) made_is) ∙ tells) none
+
+    module _ (on : HasGoneOn order k l) (stage : Stage) (going : stage ≡ Going) where
+      went_to : moment_of (at stage) ≡ moved (moment_of p) (Instr t)
+      went_to = leads_to stage (moment_state (at stage) on.rest.idle ∙ on.state ∙ ap (λ (g : Outcome). g.state) made_is)
+
+      plain : MakesPlain p (at stage)
+      plain = record {
+        makes = record { move = Instr t; allowed = allowed_here; leads = went_to; counts = adds Quiet (ap (λ (r : Report). r.head) on.tells ∙ quiet_head k.tables.placed) refl };
+        silent =
+            ap (λ (g : Outcome). lines g.report (moment_of (at stage)).state.memory) (sym made_is)
+            ∙ ap (λ r. lines r (moment_of (at stage)).state.memory) on.tells
+            ∙ no_lines k.tables.placed (moment_of (at stage)).state.memory;
+        stage = going;
+        none = none_left l.rest on.rest.idle;
+      }
+
+      pub goes_plain : last ≡ p.last → Advances old Plain (record { kernel = l; instructions = p.instructions + 1; last = last; stage = stage; settings = p.settings })
+      goes_plain stays = (subst (λ x. MakesPlain x (at stage)) is plain, stays ∙ ap (λ (x : Engine). x.last) is)
+
+      pub goes_switched : Advances old (Switched p.last) (record { kernel = l; instructions = p.instructions + 1; last = last; stage = stage; settings = p.settings })
+      goes_switched = (subst (λ x. MakesPlain x (at stage)) is plain, ap (λ (x : Engine). x.last) is)
+
+      pub plain_sound : IsSound (record { kernel = l; instructions = p.instructions + 1; last = last; stage = stage; settings = p.settings })
+      plain_sound =
+          let stands : Stands order l last Going = (on.rest, on.turn, by ∙ ap Some (sym (on.placed ∙ placed))) in
+          sound_moved p (at stage) sound refl current (subst (Stands order l last) (sym going) stands) (Instr t) allowed_here went_to
+
+    module _ (has : BeginsInstruction order l (instruction (view order k.tables) k.tables.placed)) where
+      begun_to : moment_of (at InCall) ≡ moved (moment_of p) (Instr t)
+      begun_to = leads_to InCall (state_is p (at InCall) (Instr t) _ has.0 made_is allowed_here refl)
+
+      pub goes_begun : Advances old (Begun p.last) (record { kernel = l; instructions = p.instructions + 1; last = last; stage = InCall; settings = p.settings })
+      goes_begun =
+          (subst (λ x. BeginsMove x (at InCall)) is (begins p (at InCall) (Instr t) _ has.0 made_is allowed_here refl begun_to (adds _ refl has.1)), ap (λ (x : Engine). x.last) is)
+
+      pub begun_sound : IsSound (record { kernel = l; instructions = p.instructions + 1; last = last; stage = InCall; settings = p.settings })
+      begun_sound = sound_moved p (at InCall) sound refl current has.0.call (Instr t) allowed_here begun_to
+
+-- the delivery of a fault's signal is begun
+module _ (p old : Engine) (is : p ≡ old) (t sig : ℕ) (sound : IsSound p) (rest : IsAtRest p.kernel) (over : (view order p.kernel.tables).over ≡ None)
+    (next : next_delivery (view order p.kernel.tables) ≡ Some (record { thread = t; signal = sig })) (l : Kernel Queue) (begun : IsBegun order p.kernel l (deliver (view order p.kernel.tables))) where
+  abbrev delivering : Engine
+  delivering = record { kernel = l; instructions = p.instructions; last = p.last; stage = InCall; settings = p.settings }
+
+  here : (moment_of p).state ≡ view order p.kernel.tables
+  here = moment_state p rest.idle
+
+  can_deliver : Allowed p.settings (moment_of p) Deliver
+  can_deliver = (ap (λ (s : State). s.over) here ∙ over, record { thread = t; signal = sig }, ap next_delivery here ∙ next)
+
+  head_is : (deliver (view order p.kernel.tables)).report.head ≡ DeliverHead t sig ((view order p.kernel.tables).pending t sig)
+  head_is = ap (λ d. (delivered (view order p.kernel.tables) d).report.head) next
+
+  has : HasBegun order l (deliver (view order p.kernel.tables))
+  has =
+      has_begun order p.kernel l (deliver (view order p.kernel.tables)) rest.untold begun
+      (λ h. absurd (let e : Quiet ≡ DeliverHead t sig ((view order p.kernel.tables).pending t sig) = sym h ∙ head_is in cc))
+
+  delivers_to : moment_of delivering ≡ moved (moment_of p) Deliver
+  delivers_to =
+      let state = state_is p delivering Deliver _ has (ap deliver (sym here)) can_deliver refl in
+      λ i. record { state = state i; instructions = p.instructions; last = p.last }
+
+  pub delivers : Advances old (Begun p.last) (record { kernel = l; instructions = p.instructions; last = p.last; stage = InCall; settings = p.settings })
+  delivers =
+      let counts = delivery_counts (moment_of p) p.last _ t sig ((view order p.kernel.tables).pending t sig) refl head_is in
+      (subst (λ x. BeginsMove x delivering) is (begins p delivering Deliver _ has (ap deliver (sym here)) can_deliver refl delivers_to counts), ap (λ (x : Engine). x.last) is)
+
+  pub delivers_sound : IsSound (record { kernel = l; instructions = p.instructions; last = p.last; stage = InCall; settings = p.settings })
+  delivers_sound =
+      sound_moved p delivering sound refl (λ current. subst (λ x. AreCurrent (level_of x.ready) (view order x)) (sym begun.tables) current) has.call Deliver can_deliver delivers_to

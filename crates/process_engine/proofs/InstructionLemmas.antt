@@ -1,0 +1,146 @@
+-- What one instruction of the thread in place comes to.
+use Rattle.std.proofs.Common.{◌≡◌, ◌≤◌, ◌∙◌, ap, sym, refl, subst, arith, ℕ, false, not, List, [], ◌∷◌, Some, length, drop}
+use Rattle.std.proofs.lemmas.List.{length-drop}
+use Rattle.thread_base.specs.Priority.{effective, first_greatest}
+use Rattle.thread_base.proofs.MapLemmas.{kept}
+use Rattle.thread_base.proofs.PriorityLemmas.{first_in}
+use Rattle.rv_exec.specs.Meaning.{Effect}
+use Rattle.rv_exec.specs.declared.Event.{Event}
+use Rattle.rv_exec.specs.declared.Event.TheVariants.{Next, Ecall, Fault, Return}
+use Rattle.rv_exec.specs.declared.Special.{Special}
+use Rattle.rv_exec.specs.declared.Special.TheVariants.{Handler, Cleanup, Start}
+use Rattle.posix_model.specs.State.{State, Thread, Registers, Phase, Normal, Leaving}
+use Rattle.posix_model.specs.Scheduling.{edge, eff, chosen}
+use Rattle.posix_model.specs.Changes.{Outcome, set_registers}
+use Rattle.posix_model.specs.Good.{IsGood}
+use Rattle.posix_model.specs.Instructions.{instruction, by_effect, returned, segmentation_fault}
+use Rattle.posix_model.specs.Reports.{nothing_told}
+use Rattle.posix_model.specs.Calls.{call, call_row}
+use Rattle.posix_model.specs.declared.Arguments.{Arguments}
+use Rattle.posix_model.specs.declared.Head.{Head}
+use Rattle.posix_model.specs.declared.Head.TheVariants.{Quiet, Call, Ret, Fault as FaultHead}
+use Rattle.trace_text.specs.Counting.{is_delivery}
+use Rattle.posix_model.proofs.StandingLemmas.{ready_live}
+use Rattle.kernel_state.specs.View.{view, outcome}
+use Rattle.kernel_state.specs.Changing.{IsListed}
+use Rattle.kernel_state.specs.Moves.{left, IsIdle}
+use Rattle.kernel_state.specs.Executing.{HasExecuted, effect_at}
+use Rattle.kernel_state.specs.Begun.{CanBegin, IsBegun}
+use Rattle.kernel_state.specs.declared.change.Change.{Change}
+use Rattle.kernel_state.specs.declared.kernel.Kernel.{Kernel}
+use Rattle.kernel_state.specs.declared.tables.Tables.{Tables}
+use Rattle.process_engine.specs.Engine.{IsAtRest, HasTurn}
+use Rattle.process_engine.specs.Advancing.{HasGoneOn, HasBegun, BeginsInstruction}
+use Rattle.process_engine.proofs.ReadableLemmas.{untold_readable, owed_readable}
+
+-- the chosen thread is ready
+pub chosen_listed : (s : State) (t : ℕ) → IsGood s → chosen s ≡ Some t → IsListed s t
+unfolding chosen
+chosen_listed s t good first =
+    let listed = first_in (eff s) s.ready t first in
+    let ready = sym (good.ready.listed t) ∙ listed in
+    (ap not (ready_live (s.threads t).standing ready).0, listed, ready)
+
+-- registers and memory count for no priority
+chosen_stays : (s : State) (t : ℕ) (registers : Registers) (memory : List ℕ) → chosen (record (set_registers s t registers) { memory = memory }) ≡ chosen s
+unfolding chosen eff
+chosen_stays s t registers memory =
+    let own_stays = λ (u : ℕ). kept (λ (x : Thread). x.base) s.threads t u (record (s.threads t) { registers = registers }) refl in
+    λ i. first_greatest (λ u. effective (λ v. own_stays v i) (edge s) u) s.ready
+
+-- an instruction of the thread in place, which has its turn, up to what its event asks for
+module _ {R : Type 0} (order : R → List ℕ) (k q : Kernel R) (rest : IsAtRest k) (turn : HasTurn order k) (good : IsGood (view order k.tables)) (placed : q.tables.placed ≡ k.tables.placed)
+    (untold : q.tables.report ≡ k.tables.report) (others : q ≡ record k { tables = q.tables }) where
+  abbrev s : State
+  s = view order k.tables
+
+  abbrev t : ℕ
+  t = k.tables.placed
+
+  at_rest : IsAtRest q
+  at_rest = record { idle = subst IsIdle (sym (ap (λ (x : Kernel R). x.rest) others)) rest.idle; untold = untold ∙ rest.untold }
+
+  -- a plain one
+  pub goes_on : HasExecuted (view order k.tables) k.tables.placed Next (view order q.tables) → HasGoneOn order k q
+  unfolding instruction
+  goes_on h =
+      let registers = h.0 in
+      let went = ap (by_effect s t) h.2 in
+      record {
+        state = h.3 ∙ sym (ap (λ (g : Outcome). g.state) went);
+        tells = ap (λ (g : Outcome). g.report) went;
+        rest = at_rest;
+        turn = record {
+          going_on = ap (λ (x : State). x.over) h.3 ∙ turn.going_on;
+          calm = ap (λ (x : State). x.pending) h.3 ∙ turn.calm;
+          first = ap chosen h.3 ∙ chosen_stays s t h.0 h.1 ∙ turn.first ∙ ap Some (sym placed);
+        };
+        placed = placed;
+      }
+
+  -- another leaves the machine, and its move can begin
+  pub can_begin : view order q.tables ≡ view order k.tables → CanBegin order q q.tables.placed
+  can_begin same =
+      let listed = chosen_listed s t good turn.first in
+      record {
+        idle = at_rest.idle;
+        untold = at_rest.untold;
+        good = subst IsGood (sym same) good;
+        listed = subst (λ u. IsListed (view order q.tables) u) (sym placed) (subst (λ x. IsListed x t) (sym same) listed);
+        calm = ap (λ (x : State). x.pending) same ∙ turn.calm;
+      }
+
+-- an instruction that is no plain one leaves the machine
+pub stays : (s r : State) (t : ℕ) (event : Event) → HasExecuted s t event r → (event ≡ Next → ⊥) → r ≡ s
+stays s r t Next h asks = absurd (asks refl)
+stays s r t Ecall h asks = h.1
+stays s r t (Fault signal) h asks = h.1
+stays s r t (Return which) h asks = h.1
+
+-- its main line is that of a call, of a fault or of a return
+pub record IsMain (head : Head) : Type 0 where
+  told : head ≡ Quiet → ⊥
+  kind : is_delivery head ≡ false
+
+pub call_main : (s : State) (t number : ℕ) (c : Arguments) → IsMain (call s t number c).report.head
+call_main s t number c = record { told = λ h. (let e : Call number (c.a0 ∷ c.a1 ∷ c.a2 ∷ c.a3 ∷ []) (call_row s t number c).reply ≡ Quiet = h in absurd (cc)); kind = refl }
+
+pub fault_main : (sig : ℕ) → IsMain (FaultHead sig)
+fault_main sig = record { told = λ h. absurd (cc); kind = refl }
+
+made_main : (which : Special) → IsMain (Ret which)
+made_main which = record { told = λ h. absurd (cc); kind = refl }
+
+pub return_main : (s : State) (t : ℕ) (which : Special) (phase : Phase) → IsMain (returned s t which phase).report.head
+return_main s t Handler phase = fault_main segmentation_fault
+return_main s t Cleanup Normal = fault_main segmentation_fault
+return_main s t Cleanup (Leaving value) = made_main Cleanup
+return_main s t Start Normal = made_main Start
+return_main s t Start (Leaving value) = fault_main segmentation_fault
+
+-- what is left of a few changes are a few
+few_left : (xs : List Change) (i : ℕ) → length xs ≤ 512 → length (drop i xs) ≤ 512
+few_left xs i few = let cut = length-drop i xs in omega (arith, cut, few)
+
+-- a move that was begun where nothing was told yet
+pub has_begun : {R : Type 0} (order : R → List ℕ) (k q : Kernel R) (g : Outcome) → k.tables.report ≡ nothing_told → IsBegun order k q g → (g.report.head ≡ Quiet → ⊥)
+    → HasBegun order q g
+unfolding outcome
+has_begun order k q g untold begun main = record {
+  owed = begun.owed;
+  call = record {
+    begun = begun.begun;
+    can = begun.can;
+    readable = owed_readable (outcome order q.tables) (left q.rest) begun.can (untold_readable q.tables.report (view order q.tables).memory (ap (λ (x : Tables _). x.report) begun.tables ∙ untold));
+  };
+  few = few_left q.rest.noted.items q.rest.next begun.few;
+  main = main;
+}
+
+pub by_event : (s : State) (t : ℕ) (effect : Effect) → effect_at s t ≡ effect → by_effect s t effect ≡ instruction s t
+unfolding instruction
+by_event s t effect e = sym (ap (by_effect s t) e)
+
+pub begun_by : {R : Type 0} (order : R → List ℕ) (k q : Kernel R) (g h : Outcome) → k.tables.report ≡ nothing_told → IsBegun order k q g → IsMain g.report.head → g ≡ h
+    → BeginsInstruction order q h
+begun_by order k q g h untold begun main e = subst (BeginsInstruction order q) e (has_begun order k q g untold begun main.told, main.kind)
