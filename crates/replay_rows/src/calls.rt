@@ -1,8 +1,8 @@
 //! Calls of one thread, and its return.
 
-use crate::program::Item::{At, Ret, Sys};
-use crate::program::{Row, first_other};
 use std::test::Fail;
+use workload_gen::program::Item::{At, Ret, Sys};
+use workload_gen::program::{Row, first_other};
 
 #[test]
 fn rows_of_sheets(rt: HostRuntime) -> Result<(), Fail> {

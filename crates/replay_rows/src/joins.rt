@@ -1,8 +1,8 @@
 //! Programs whose threads are joined and detached.
 
-use crate::program::Item::{At, Sys};
-use crate::program::{END, Row, YIELD, first_other};
 use std::test::Fail;
+use workload_gen::program::Item::{At, Sys};
+use workload_gen::program::{END, Row, YIELD, first_other};
 
 /// Joins, and the numbers that they free.
 const JOINS: &[Row<'static>] = &[

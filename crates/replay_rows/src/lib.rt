@@ -5,6 +5,5 @@
 mod calls;
 #[cfg(test)]
 mod joins;
-pub mod program;
 #[cfg(test)]
 mod threads;

@@ -2,10 +2,10 @@
 //! 93 exit of the process, 256 create, 257 exit of the thread, 258 join, 259 detach, 260 self, 261 yield.
 //! Attributes are 65536 (detached), and 131072 (they tell the scheduling) + 256 * policy + priority.
 
-use crate::program::Item::{At, Ret, Sys};
-use crate::program::{END, Item, Row, SELF, YIELD, first_other};
 use std::alloc::Global;
 use std::test::Fail;
+use workload_gen::program::Item::{At, Ret, Sys};
+use workload_gen::program::{END, Item, Row, SELF, YIELD, first_other};
 
 /// Who runs, among equals.
 const TURNS: &[Row<'static>] = &[
@@ -67,7 +67,7 @@ run 1\n\
 call 1 93 0 0 0 0 = end\n\
 end exit 0\n",
     },
-    // who is answered goes on behind its equals
+    // who is answered goes on after its equals
     Row {
         items: &[
             Sys(256, [65_796, 0, 131_072, 0]),
@@ -136,7 +136,7 @@ end idle\n",
 
 /// Who runs, by priority; thread 1 has 8.
 const PRIORITIES: &[Row<'static>] = &[
-    // a new thread of priority 12 runs at once, and goes on behind its yield
+    // a new thread of priority 12 runs at once, and goes on after its yield
     Row {
         items: &[
             Sys(256, [65_708, 7, 131_072, 131_084]),
@@ -303,7 +303,7 @@ run 1\n\
 call 1 93 0 0 0 0 = end\n\
 end exit 0\n",
     },
-    // a return behind a write that is refused with 9: the value is -9
+    // a return after a write that is refused with 9: the value is -9
     Row {
         items: &[
             Sys(256, [65_752, 0, 131_072, 0]),
@@ -564,7 +564,7 @@ fault 2 11\n\
 deliver 2 11 1\n\
 end killed 11\n",
     },
-    // a routine behind the window, while thread 1 waits
+    // a routine after the window, while thread 1 waits
     Row {
         items: &[Sys(256, [4_259_840, 0, 131_072, 0]), Sys(258, [2, 0, 0, 0])],
         text: b"run 1\n\
@@ -645,7 +645,7 @@ fn filling(alloc: Global, last: u32) -> Result<(Vec<Item>, Vec<u8>), Fail> {
 fn no_number_is_left(rt: HostRuntime) -> Result<(), Fail> {
     let alloc = rt.alloc();
     let (mut items, mut text) = filling(alloc, 64)?;
-    // create answers EAGAIN, behind its other refusals; there is a thread 64
+    // create answers EAGAIN, after its other refusals; there is a thread 64
     items.extend_from_slice(&[
         Sys(256, [65_620, 0, 131_072, 0]),
         Sys(256, [65_622, 0, 131_072, 0]),

@@ -2,9 +2,9 @@
 //! a condition, 281 destroy, 282 wait with a condition and a mutex, 284 signal, 285 broadcast. A new thread whose
 //! attributes are 131082, 131084 or 131086 has priority 10, 12 or 14; thread 1 has 8.
 
-use replay_rows::program::Item::{At, Sys, Word};
-use replay_rows::program::{END, Item, Row, first_other, image_of, output_of};
 use std::test::Fail;
+use workload_gen::program::Item::{At, Sys, Word};
+use workload_gen::program::{END, Item, Row, first_other, image_of, output_of};
 
 /// What the calls answer, and who is woken.
 const WOKEN: &[Row<'static>] = &[

@@ -2,9 +2,9 @@
 //! its attributes (1 error-checking, 2 recursive), 275 destroy, 276 lock, 277 trylock, 278 unlock. A new thread whose
 //! attributes are 131082 has priority 10, and one with 131084 has 12; thread 1 has 8.
 
-use replay_rows::program::Item::{At, Sys, Word};
-use replay_rows::program::{END, Row, first_other, image_of, output_of};
 use std::test::Fail;
+use workload_gen::program::Item::{At, Sys, Word};
+use workload_gen::program::{END, Row, first_other, image_of, output_of};
 
 /// What a lock, a trylock, an unlock and a destroying answer.
 const ANSWERS: &[Row<'static>] = &[

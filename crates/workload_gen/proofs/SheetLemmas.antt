@@ -99,7 +99,7 @@ module _ (n : ℕ) (rest : List ℕ) where
       let segment = segment-none (length (with_headers n rest)) size n (omega arith) (omega arith) room in
       rw (identity, machine-headers, table-headers, segments, segment, entry-headers, entry-none size large) refl
 
-  -- behind the headers stands the rest
+  -- after the headers stands the rest
   drop-headers : (at : ℕ) → drop (headers_size + at) (with_headers n rest) ≡ drop at rest
   unfolding file_header program_header
   drop-headers at = drop-append-add (file_header ++ program_header n) rest at

@@ -13,7 +13,7 @@ half n = little_bytes 2 n
 abbrev pub word : ℕ → List ℕ
 word n = little_bytes 4 n
 
--- the size of the file's header and of its one program header, behind which the code stands
+-- the size of the file's header and of its one program header, after which the code stands
 abbrev pub headers_size : ℕ
 headers_size = 84
 
@@ -31,7 +31,7 @@ file_header =
     ++ half 243  -- e_machine: EM_RISCV
     ++ word 1  -- e_version: EV_CURRENT
     ++ word code_address  -- e_entry
-    ++ word 52  -- e_phoff: directly behind this header
+    ++ word 52  -- e_phoff: directly after this header
     ++ word 0  -- e_shoff
     ++ word 0  -- e_flags
     ++ half 52  -- e_ehsize

@@ -6,7 +6,7 @@ use rv_exec::BASE;
 use std::alloc::{AllocError, Global};
 use thread_base::NoMemory;
 
-/// The file's header (ELF: Elf32_Ehdr): an executable file for RISC-V that enters behind its headers, at
+/// The file's header (ELF: Elf32_Ehdr): an executable file for RISC-V that enters after its headers, at
 /// 0x10054, with one program header and no section.
 const FILE_HEADER: [u8; 52] = *b"\x7fELF\x01\x01\x01\0\0\0\0\0\0\0\0\0\
     \x02\0\xf3\0\x01\0\0\0\x54\0\x01\0\x34\0\0\0\0\0\0\0\0\0\0\0\x34\0\x20\0\x01\0\0\0\0\0\0\0";
@@ -23,7 +23,7 @@ const PF_R_X: u32 = 5;
 /// The alignment that a sheet's segment names.
 const ALIGNMENT: u32 = 4_096;
 
-/// Puts words behind the bytes of a file, the lowest byte of each first.
+/// Puts words after the bytes of a file, the lowest byte of each first.
 fn push_words(file: &mut Vec<u8>, words: &[u32]) -> Result<(), AllocError>
     ensures { OnOk result (file.new.items ≡ file.old.items ++ flat_map word words.now) }
 {

@@ -1,7 +1,9 @@
-//! Programs for tests: the words of system calls, and the files that hold such words.
+//! Programs for tests: the words of system calls, the files that hold such words, and the replay of a program of a few
+//! items.
 #![tactic(auto)]
 
 mod image;
+pub mod program;
 mod words;
 
 pub use image::sheet;

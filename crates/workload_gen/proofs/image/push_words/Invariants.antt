@@ -1,4 +1,4 @@
--- So far the words that were read stand behind what the file had.
+-- So far the words that were read stand after what the file had.
 use Rattle.std.proofs.Common.{◌≡◌, ◌++◌, take}
 use Rattle.std.specs.List.{flat_map}
 use Rattle.workload_gen.specs.Sheet.{word}

@@ -1,10 +1,10 @@
 //! Programs of a few items, and the replay of one under the journal without entries.
 
+use crate::{sheet, sys_words};
 use replay_cli::{Status, replay};
 use replay_io::{MemFiles, MemSink, Words};
 use std::alloc::Global;
 use std::test::Fail;
-use workload_gen::{sheet, sys_words};
 
 /// An item of a sheet program.
 #[derive(Clone, Copy)]
