@@ -1,0 +1,2 @@
+#define FSU_REFUSED_ATOMICS
+#include <fsu_refused.h>

@@ -1,0 +1,2 @@
+#define FSU_REFUSED_THREADS
+#include <fsu_refused.h>
