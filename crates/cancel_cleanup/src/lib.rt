@@ -70,7 +70,7 @@ impl Cancels {
         })
     }
 
-    /// Pushes a record behind a thread's others; false, and nothing changes, exactly where the thread has 32.
+    /// Pushes a record after a thread's others; false, and nothing changes, exactly where the thread has 32.
     pub fn push(&mut self, t: Tid, c: Cleanup) -> bool
         ensures room { result ≡ not (length (cleanups_of self.old t) == 32) }
         ensures cleanups { cleanups_of self.new

@@ -86,7 +86,7 @@ module _ (mutexes : List (Option ℕ)) (queues : List (List ℕ)) where
       ap (λ f k. condition_of (f k) (queue_of queues k)) (put_is (λ k. get_or mutexes k None) (λ k. get_or (set mutexes c o) k None) c o (get_or-set_same mutexes c o None within) (λ k ne. get_or-set_other mutexes c k o None ne))
       ∙ first_put condition_of (λ k. get_or mutexes k None) (queue_of queues) c o
 
-  -- one place was written, and a thread put behind its waiters
+  -- one place was written, and a thread put after its waiters
   pub joined_set : (others : List (List ℕ)) (c t m : ℕ) → IsSome (conditions (record { mutexes = mutexes; queues = queues }) c)
       → ForSome (cond_mutex (conditions (record { mutexes = mutexes; queues = queues }) c)) (λ n. n ≡ m)
       → c < length mutexes → queue_of others ≡ put (queue_of queues) c (queue_of queues c ++ t ∷ [])
@@ -149,7 +149,7 @@ module _ (mutexes : List (Option ℕ)) (queues : List (List ℕ)) where
       ];
     }
 
--- both a write of a condition's place and a thread behind its waiters
+-- both a write of a condition's place and a thread after its waiters
 pub sound_joined : (mutexes : List (Option ℕ)) (queues others : List (List ℕ)) → AreSound mutexes queues → (c t m : ℕ) → c < length mutexes
     → queue_of others ≡ put (queue_of queues) c (queue_of queues c ++ t ∷ []) → AreSound (set mutexes c (Some m)) others
 sound_joined mutexes queues others sound c t m within e =

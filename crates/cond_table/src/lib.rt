@@ -91,7 +91,7 @@ impl Conds {
         }
     }
 
-    /// Puts a thread that waits for no condition behind all others that wait for one, with the mutex that they all
+    /// Puts a thread that waits for no condition after all others that wait for one, with the mutex that they all
     /// wait with.
     pub fn wait(&mut self, c: u32, t: Tid, m: u32)
         requires exists { IsSome (conditions self.old c) }

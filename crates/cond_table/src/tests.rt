@@ -20,7 +20,7 @@ fn unmake(table: &mut Conds, c: u32) -> bool {
     true
 }
 
-/// Puts a thread behind those that wait for a condition; whether it waits for no other, there is the condition, and
+/// Puts a thread after those that wait for a condition; whether it waits for no other, there is the condition, and
 /// its waiters use this mutex.
 fn wait(table: &mut Conds, c: u32, number: u32, m: u32) -> bool {
     let Some(t) = Tid::new(number) else {
@@ -55,7 +55,7 @@ fn leave(table: &mut Conds, number: u32) -> bool {
     }
 }
 
-/// The first three that wait for a condition, and 0 behind the last.
+/// The first three that wait for a condition, and 0 after the last.
 fn waiters(table: &Conds, c: u32) -> [u32; 3] {
     let mut numbers = [0; 3];
     if table.exists(c) {

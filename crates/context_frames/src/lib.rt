@@ -10,7 +10,8 @@ pub use frames::Frames;
 use rv_exec::Regs;
 use thread_base::SigSet;
 
-/// What a frame was pushed for: a signal's handler, or a cleanup routine or destructor (POSIX.1).
+/// What a frame was pushed for: a signal's handler, or a cleanup routine that is taken off the list and run
+/// (POSIX.1 pthread_cleanup_pop). What a thread's exit runs has no frame.
 #[derive(Clone, Copy, Debug, PartialEq, Eq)]
 pub enum FrameKind {
     Handler,

@@ -3,7 +3,7 @@ use Rattle.std.proofs.Common.{◌≡◌, ℕ, zero, suc, ◌+◌, ◌*◌, ◌-�
 use Rattle.elf_image.specs.declared.layout.Segment.{Segment}
 use Rattle.elf_image.specs.Layout.{segment_at, segments_from}
 
--- the first header, and those behind it
+-- the first header, and those after it
 segments_from-step : (bytes : List ℕ) (at n : ℕ) → 0 < n
     → segments_from bytes at n ≡ segment_at bytes at ∷ segments_from bytes (at + 32) (n - 1)
 segments_from-step bytes at zero some = absurd (omega arith)

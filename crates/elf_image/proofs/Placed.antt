@@ -15,7 +15,7 @@ chosen : (b : Bool) (x y z : ℕ) → (b ≡ true → z ≡ x) → (b ≡ false 
 chosen true x y z first second = first refl
 chosen false x y z first second = second refl
 
--- a place is before a part, behind it or in it
+-- a place is before a part, after it or in it
 sides : (at k n : ℕ) → (k < at) ⊎ ((at + n ≤ k) ⊎ ((at ≤ k) × (k < at + n)))
 sides at k n = by_tests (ltb k at) (ltb k (at + n)) refl refl
   where

@@ -47,7 +47,7 @@ e_phentsize bytes = half_at bytes 42
 abbrev pub e_phnum : List ℕ → ℕ
 e_phnum bytes = half_at bytes 44
 
--- the offset behind the last program header, each of which has 32 bytes
+-- the offset after the last program header, each of which has 32 bytes
 abbrev pub table_end : List ℕ → ℕ
 table_end bytes = e_phoff bytes + 32 * e_phnum bytes
 

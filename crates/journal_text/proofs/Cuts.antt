@@ -88,7 +88,7 @@ pub flat_map-lines : (text : List ℕ) → flat_map line_text (lines text) ≡ t
 flat_map-lines [] = refl
 flat_map-lines (b ∷ bytes) = grind (arith, nat_tests, in_front_text, flat_map-lines bytes)
 
--- a cut text is what stands before the mark, the mark, and what stands behind; or nothing stands behind
+-- a cut text is what stands before the mark, the mark, and what stands after; or nothing stands after
 abbrev pub IsCut : ℕ → List ℕ → Type 0
 IsCut c text =
     (text ≡ before_first (λ b. eqb b c) text ++ c ∷ after_first (λ b. eqb b c) text)

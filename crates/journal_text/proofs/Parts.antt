@@ -7,12 +7,12 @@ use Rattle.journal_text.specs.Contents.{Contents}
 use Rattle.journal_text.specs.Lines.{Parts, has_leading_zero, number, is_digits, is_sig, is_tick, is_data, is_end, is_form}
 use Rattle.journal_text.specs.Refusals.{when, ◌orelse◌, parts_refusal, is_bad_number, is_bad_signal, is_out_of_order, is_after_eof, is_full}
 
--- no condition holds, and nothing is behind it
+-- no condition holds, and nothing is after it
 pub when_none : (b : Bool) (r : JournalRefusal) (more : Option JournalRefusal) → (when b r orelse more) ≡ None
     → (b ≡ false) × (more ≡ None)
 when_none b r more h = grind arith
 
--- a line behind a journal is of one of the four forms, and nothing is bad in it
+-- a line after a journal is of one of the four forms, and nothing is bad in it
 pub record IsGood (j : Contents) (p : Parts) : Type 0 where
   pub form : is_form p ≡ true
   pub number : is_bad_number p ≡ false

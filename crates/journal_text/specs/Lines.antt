@@ -17,12 +17,12 @@ abbrev pub in_front : ℕ → List Line → List Line
 in_front b [] = record { text = b ∷ []; ended = false } ∷ []
 in_front b (line ∷ lines) = record { text = b ∷ line.text; ended = line.ended } ∷ lines
 
--- the lines of a text; what stands behind the last line feed is a line that has none
+-- the lines of a text; what stands after the last line feed is a line that has none
 abbrev pub lines : List ℕ → List Line
 lines [] = []
 lines (b ∷ bytes) = if b == 10 then record { text = []; ended = true } ∷ lines bytes else in_front b (lines bytes)
 
--- a line `N.K EVENT` cut at its first point and at the first blank behind that, each part as it is written
+-- a line `N.K EVENT` cut at its first point and at the first blank after that, each part as it is written
 pub record Parts : Type 0 where
   pub n : List ℕ
   pub k : List ℕ

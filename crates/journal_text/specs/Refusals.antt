@@ -33,7 +33,7 @@ is_bad_signal p = is_sig p.event && not (is_in_scope (number (drop 4 p.event)))
 abbrev pub is_out_of_order : Contents → Parts → Bool
 is_out_of_order j p = is_before_last (place_of p) j.entries
 
--- the entry brings or ends input behind an end of input
+-- the entry brings or ends input after an end of input
 abbrev pub is_after_eof : Contents → Parts → Bool
 is_after_eof j p = is_input (what_of 0 p.event) && has_eof j.entries
 
@@ -41,11 +41,11 @@ is_after_eof j p = is_input (what_of 0 p.event) && has_eof j.entries
 abbrev pub is_full : Contents → Bool
 is_full j = nat_le 1000000 (length j.entries)
 
--- the number of the line behind a journal; the header is line 1
+-- the number of the line after a journal; the header is line 1
 abbrev pub next_line : Contents → ℕ
 next_line j = length j.entries + 2
 
--- the refusal of a line of the four forms' parts behind a journal
+-- the refusal of a line of the four forms' parts after a journal
 unfoldable pub parts_refusal : Contents → Parts → Option JournalRefusal
 parts_refusal j p =
     when (not (is_form p)) (NoLine (next_line j))
@@ -55,7 +55,7 @@ parts_refusal j p =
     orelse when (is_after_eof j p) (AfterEof (next_line j))
     orelse when (is_full j) (TooMany (next_line j))
 
--- the refusal of a line behind a journal
+-- the refusal of a line after a journal
 abbrev pub line_refusal : Contents → Line → Option JournalRefusal
 line_refusal j line = when (not line.ended) (NoLine (next_line j)) orelse parts_refusal j (parts_of line.text)
 
@@ -66,7 +66,7 @@ with_parts j p = record { entries = j.entries ++ entry_of (length j.bytes) p ∷
 abbrev pub with_line : Contents → Line → Contents
 with_line j line = with_parts j (parts_of line.text)
 
--- the refusal of the first bad line of these, which stand behind a journal
+-- the refusal of the first bad line of these, which stand after a journal
 abbrev pub first_bad_line : Contents → List Line → Option JournalRefusal
 first_bad_line j [] = None
 first_bad_line j (line ∷ rest) = line_refusal j line orelse first_bad_line (with_line j line) rest
@@ -76,7 +76,7 @@ abbrev pub with_lines : Contents → List Line → Contents
 with_lines j [] = j
 with_lines j (line ∷ rest) = with_lines (with_line j line) rest
 
--- the lines behind the header
+-- the lines after the header
 abbrev pub entry_lines : List ℕ → List Line
 entry_lines bytes = lines (drop 14 bytes)
 

@@ -8,7 +8,7 @@ use Rattle.journal_text.specs.declared.entry.Entry.{Entry}
 use Rattle.journal_text.specs.Contents.{Contents, is_input, has_eof, is_before_last, total_len}
 use Rattle.journal_text.specs.Spelling.{spell}
 
--- an event is within its limits; data have the bytes behind those of the entries before
+-- an event is within its limits; data have the bytes after those of the entries before
 abbrev pub IsEvent : List Entry → What → Type 0
 IsEvent before (Sig s) = IsInScope s
 IsEvent before Tick = Unit {0}
@@ -16,7 +16,7 @@ IsEvent before (Data start len) = (start ≡ total_len before) × (1 ≤ len) ×
 IsEvent before Eof = Unit {0}
 
 -- an entry may follow those before it: its numbers are within the limits, its place is not before that
--- of the last, and it brings no input behind an end of input
+-- of the last, and it brings no input after an end of input
 pub record MayFollow (before : List Entry) (e : Entry) : Type 0 where
   pub n : e.place.n ≤ 1000000000
   pub k : e.place.k ≤ 1000000

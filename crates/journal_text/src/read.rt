@@ -17,7 +17,7 @@ const HEADER: &[u8] = b"fsu-journal 1\n";
 /// The most bytes of a journal's text.
 const MOST: usize = 16_777_216;
 
-/// Reads a line, and gives the text behind it.
+/// Reads a line, and gives the text after it.
 fn read_line<'a>(draft: &mut Draft, text: &'a [u8]) -> Result<&'a [u8], JournalRefusal>
     requires some { 0 < length text.now }
     requires room { length draft.old.entries + length draft.old.bytes + length text.now ≤ 16777216 }
@@ -41,7 +41,7 @@ fn read_line<'a>(draft: &mut Draft, text: &'a [u8]) -> Result<&'a [u8], JournalR
     Ok(rest)
 }
 
-/// Reads the lines behind the header.
+/// Reads the lines after the header.
 fn read_lines(alloc: Global, text: &[u8]) -> Result<Draft, JournalRefusal>
     requires { length text.now ≤ 16777216 }
     ensures good { OnOk result (first_bad_line empty (lines text.now) ≡ None) }
@@ -56,7 +56,7 @@ fn read_lines(alloc: Global, text: &[u8]) -> Result<Draft, JournalRefusal>
     Ok(draft)
 }
 
-/// The lines behind the header.
+/// The lines after the header.
 #[tactic(auto, unfolding(crate::specs::Refusals::first_bad, crate::specs::Refusals::entries_of), using(std::proofs::lemmas::List::take_rest))]
 fn behind_header(bytes: &[u8]) -> Result<&[u8], JournalRefusal>
     ensures bad { IfOk result (λ text. first_bad bytes.now ≡ first_bad_line empty (lines text.now)) }

@@ -23,7 +23,7 @@ pub enum JournalRefusal {
     /// The place is before that of the line before.
     #[error("Order {0}")]
     Order(u32),
-    /// It brings or ends input behind an end of input.
+    /// It brings or ends input after an end of input.
     #[error("AfterEof {0}")]
     AfterEof(u32),
     /// It would be entry 1,000,001.

@@ -39,7 +39,7 @@ fn position_of(text: &[u8], mark: u8) -> Option<usize>
     text.iter().position(|b| *b == mark)
 }
 
-/// What stands before the first of these bytes, and what stands behind it.
+/// What stands before the first of these bytes, and what stands after it.
 fn cut_at(text: &[u8], mark: u8) -> (&[u8], &[u8])
     ensures before { result.0.now ≡ before_first (λ b. b == mark) text.now }
     ensures behind { result.1.now ≡ after_first (λ b. b == mark) text.now }
@@ -50,7 +50,7 @@ fn cut_at(text: &[u8], mark: u8) -> (&[u8], &[u8])
     }
 }
 
-/// The first line of a text without its line feed, and the text behind it; None exactly without a line feed.
+/// The first line of a text without its line feed, and the text after it; None exactly without a line feed.
 #[tactic(auto, using(crate::proofs::Cuts::cut_some, crate::proofs::Cuts::cut_none))]
 pub fn cut_line(text: &[u8]) -> Option<(&[u8], &[u8])>
     ensures found { IfSome result (λ cut. lines text.now ≡ record { text = cut.0.now; ended = true } ∷ lines cut.1.now) }

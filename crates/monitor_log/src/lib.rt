@@ -62,7 +62,7 @@ impl Log {
         self.flag
     }
 
-    /// Logs an item: its count is added to that of its event, or it stands behind the others.
+    /// Logs an item: its count is added to that of its event, or it stands after the others.
     pub fn add(&mut self, item: Taken)
         requires { count_of item.event self.old.slots + item.count < 2 ^ 32 }
         ensures slots { self.new ≡ record self.old { slots = merged item self.old.slots } }

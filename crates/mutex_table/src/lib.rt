@@ -12,7 +12,7 @@ ghost use Rattle.thread_base.specs.Orders.{is_in, without};
 ghost use Rattle.thread_base.specs.Priority.{first_greatest};
 ghost use Rattle.tid_list.specs.Waiting.{StandsInNone, StandsInOne, AreApart};
 ghost use Rattle.thread_base.specs.Objects.{waiters_in, free_mutex, with_holder, with_waiters, is_owned_by};
-ghost use Rattle.mutex_table.specs.MutexMap.{mutexes, look_of, waiting};
+ghost use Rattle.mutex_table.specs.MutexMap.{mutexes, state_of, waiting};
 
 use std::alloc::Global;
 use std::marker::Model;
@@ -23,7 +23,7 @@ use tid_list::WaitQueues;
 /// A mutex but for its waiters: what it does where its owner locks it again, what it does to its owner's priority,
 /// and who has it (POSIX.1 mutexes).
 #[derive(Clone, Copy, Debug, PartialEq, Eq)]
-pub struct Look {
+pub struct MutexState {
     pub kind: Kind,
     pub protocol: Protocol,
     pub holder: Holder,
@@ -33,7 +33,7 @@ pub struct Look {
 /// for one mutex at most. Their memory is taken when the table is made.
 #[derive(Drop)]
 pub struct Mutexes {
-    looks: Vec<Option<Look>>,
+    states: Vec<Option<MutexState>>,
     waiters: WaitQueues,
 }
 
@@ -42,9 +42,9 @@ impl Model for Mutexes {
 
     ghost Value = { Table };
 
-    ghost view = { λ t. record { looks = t.looks.items; queues = t.waiters } };
+    ghost view = { λ t. record { states = t.states.items; queues = t.waiters } };
 
-    ghost invariant = { λ t. AreSound t.looks.items t.waiters };
+    ghost invariant = { λ t. AreSound t.states.items t.waiters };
 }
 
 impl Mutexes {
@@ -52,22 +52,22 @@ impl Mutexes {
     pub fn new(alloc: Global) -> Result<Mutexes, NoMemory>
         ensures { IfOk result (λ t. mutexes t ≡ (λ _. None)) }
     {
-        let Ok(looks) = Vec::from_slice(alloc, &[None; 256]) else {
+        let Ok(states) = Vec::from_slice(alloc, &[None; 256]) else {
             return Err(NoMemory);
         };
         Ok(Mutexes {
-            looks,
+            states,
             waiters: WaitQueues::new(alloc)?,
         })
     }
 
     /// A mutex but for its waiters; None exactly where there is no such mutex.
-    pub fn look(&self, m: u32) -> Option<Look>
-        ensures look { result ≡ look_of (mutexes self.now m) }
+    pub fn lookup(&self, m: u32) -> Option<MutexState>
+        ensures state { result ≡ state_of (mutexes self.now m) }
         ensures limit { IsSome result → m < 256 }
     {
         if m < 256 {
-            self.looks[m as usize]
+            self.states[m as usize]
         } else {
             None
         }
@@ -78,7 +78,7 @@ impl Mutexes {
         ensures member { result ≡ is_some (mutexes self.now m) }
         ensures limit { IsTrue result → m < 256 }
     {
-        self.look(m).is_some()
+        self.lookup(m).is_some()
     }
 
     /// What a mutex does where its owner locks it again.
@@ -86,8 +86,8 @@ impl Mutexes {
         requires { IsSome (mutexes self.now m) }
         ensures { option_map (λ mutex. mutex.kind) (mutexes self.now m) ≡ Some result }
     {
-        match self.look(m) {
-            Some(look) => look.kind,
+        match self.lookup(m) {
+            Some(state) => state.kind,
             None => unreachable!(),
         }
     }
@@ -97,8 +97,8 @@ impl Mutexes {
         requires { IsSome (mutexes self.now m) }
         ensures { option_map (λ mutex. mutex.protocol) (mutexes self.now m) ≡ Some result }
     {
-        match self.look(m) {
-            Some(look) => look.protocol,
+        match self.lookup(m) {
+            Some(state) => state.protocol,
             None => unreachable!(),
         }
     }
@@ -108,8 +108,8 @@ impl Mutexes {
         requires { IsSome (mutexes self.now m) }
         ensures { option_map (λ mutex. mutex.holder) (mutexes self.now m) ≡ Some result }
     {
-        match self.look(m) {
-            Some(look) => look.holder,
+        match self.lookup(m) {
+            Some(state) => state.holder,
             None => unreachable!(),
         }
     }
@@ -120,7 +120,7 @@ impl Mutexes {
         requires fresh { IsNone (mutexes self.old m) }
         ensures { mutexes self.new ≡ put (mutexes self.old) m (Some (free_mutex kind protocol)) }
     {
-        self.looks[m as usize] = Some(Look {
+        self.states[m as usize] = Some(MutexState {
             kind,
             protocol,
             holder: Holder::Free,
@@ -133,7 +133,7 @@ impl Mutexes {
         requires idle { waiters_in (mutexes self.old m) ≡ [] }
         ensures { mutexes self.new ≡ put (mutexes self.old) m None }
     {
-        self.looks[m as usize] = None;
+        self.states[m as usize] = None;
     }
 
     /// Gives a mutex to somebody, to nobody, or to a thread that has ended; its waiters stay.
@@ -141,15 +141,15 @@ impl Mutexes {
         requires { IsSome (mutexes self.old m) }
         ensures { mutexes self.new ≡ put (mutexes self.old) m (with_holder h (mutexes self.old m)) }
     {
-        let look = self.look(m).unwrap();
-        self.looks[m as usize] = Some(Look {
-            kind: look.kind,
-            protocol: look.protocol,
+        let state = self.lookup(m).unwrap();
+        self.states[m as usize] = Some(MutexState {
+            kind: state.kind,
+            protocol: state.protocol,
             holder: h,
         });
     }
 
-    /// Puts a thread that waits for no mutex behind all others that wait for one.
+    /// Puts a thread that waits for no mutex after all others that wait for one.
     pub fn add_waiter(&mut self, m: u32, t: Tid)
         requires exists { IsSome (mutexes self.old m) }
         requires free { StandsInNone t (waiting (mutexes self.old)) }
@@ -204,7 +204,7 @@ impl Mutexes {
         ensures none { IfNone result ((m : ℕ) → from ≤ m → is_owned_by t (mutexes self.now m) ≡ false) }
     {
         // No mutex has a number beyond the table.
-        let _places = &self.looks;
+        let _places = &self.states;
         self.least_owned(t, from)
     }
 
@@ -219,8 +219,8 @@ impl Mutexes {
     fn is_owned(&self, m: u32, t: Tid) -> bool
         ensures { result ≡ is_owned_by t (mutexes self.now m) }
     {
-        match self.look(m) {
-            Some(look) => look.holder.is_held_by(t),
+        match self.lookup(m) {
+            Some(state) => state.holder.is_held_by(t),
             None => false,
         }
     }

@@ -1,4 +1,4 @@
-use crate::{Holder, Kind, Look, Mutexes, Protocol};
+use crate::{Holder, Kind, MutexState, Mutexes, Protocol};
 use std::test::Fail;
 use thread_base::{Prio, Tid};
 
@@ -20,7 +20,7 @@ fn unmake(table: &mut Mutexes, m: u32) -> bool {
     true
 }
 
-/// Puts a thread behind those that wait for a mutex; whether it waits for no other, and there is the mutex.
+/// Puts a thread after those that wait for a mutex; whether it waits for no other, and there is the mutex.
 fn wait(table: &mut Mutexes, m: u32, number: u32) -> bool {
     let Some(t) = Tid::new(number) else {
         return false;
@@ -46,7 +46,7 @@ fn leave(table: &mut Mutexes, number: u32) -> bool {
     }
 }
 
-/// The first three that wait for a mutex, and 0 behind the last.
+/// The first three that wait for a mutex, and 0 after the last.
 fn waiters(table: &Mutexes, m: u32) -> [u32; 3] {
     let mut numbers = [0; 3];
     if table.exists(m) {
@@ -84,8 +84,8 @@ fn kinds_protocols_holders(rt: HostRuntime) -> Result<(), Fail> {
         );
         let holder = Holder::Free;
         assert_eq!(rt;
-            table.look(m),
-            Some(Look {
+            table.lookup(m),
+            Some(MutexState {
                 kind,
                 protocol: ceiling,
                 holder

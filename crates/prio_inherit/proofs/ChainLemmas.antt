@@ -18,7 +18,7 @@ pub record IsRight (own : ℕ → ℕ) (edge : ℕ → Option ℕ) (prio : ℕ �
   pub in_order : (t u : ℕ) → IsTid t → edge t ≡ Some u → prio t ≤ prio u
   pub lent : (t : ℕ) → IsTid t → IsLent own edge t (prio t)
 
--- chains behind one another
+-- chains after one another
 module _ (edge : ℕ → Option ℕ) where
   pub joined : {t u v : ℕ} → Leads edge t u → Leads edge u v → Leads edge t v
   joined here way = way

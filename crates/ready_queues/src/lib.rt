@@ -21,7 +21,7 @@ pub trait Ready {
     /// The priority of each thread's number. It counts for the threads in order.
     ghost prio: { Self → ℕ → ℕ };
 
-    /// Puts a thread that is not there behind all others, with a priority.
+    /// Puts a thread that is not there after all others, with a priority.
     fn append(&mut self, t: Tid, p: Prio)
         requires { is_in t (order self.old) ≡ false }
         ensures order { order self.new ≡ order self.old ++ t ∷ [] }
@@ -35,7 +35,7 @@ pub trait Ready {
         ensures prio { prio self.new ≡ prio self.old }
         ensures distinct { IsOrder (order self.new) };
 
-    /// Puts a thread behind all others; the order of the others stays.
+    /// Puts a thread after all others; the order of the others stays.
     fn to_tail(&mut self, t: Tid)
         requires { is_in t (order self.old) ≡ true }
         ensures order { order self.new ≡ without t (order self.old) ++ t ∷ [] }

@@ -24,7 +24,7 @@ fn take<R: Ready>(ready: &mut R) -> Option<u32> {
     Some(t.number())
 }
 
-/// Puts a ready thread behind all others, or gives it another priority; whether that could be done.
+/// Puts a ready thread after all others, or gives it another priority; whether that could be done.
 fn change<R: Ready>(ready: &mut R, number: u32, priority: Option<u32>) -> bool {
     let Some(t) = Tid::new(number) else {
         return false;

@@ -18,7 +18,7 @@ whole_then_whole a b c f g h x y all p q e = record {
   kept = q.kept ∙ p.kept;
 }
 
--- a text and then a front of another, with more behind it that was never tried
+-- a text and then a front of another, with more after it that was never tried
 pub whole_then_front : (a b c : Option (List ℕ)) (f g h : ℕ) (x y rest all : List ℕ)
     → WritesWhole a b f g x → WritesFront b c g h y → (x ++ y) ++ rest ≡ all → WritesFront a c f h all
 whole_then_front a b c f g h x y rest all p q e = record {
@@ -56,7 +56,7 @@ pub writes_err : {T E : Type 0} (r : Result T E) (a b : Option (List ℕ)) (f g 
 writes_err (Ok u) a b f g x h p = absurd (let e : false ≡ true = h in cc)
 writes_err (Err e) a b f g x h p = p
 
--- what stands behind an error, whatever the type of the value
+-- what stands after an error, whatever the type of the value
 pub front_of_err : {T E : Type 0} (r : Result T E) (a b : Option (List ℕ)) (f g : ℕ) (x : List ℕ)
     → IsErr r → Writes r a b f g x → WritesFront a b f g x
 front_of_err (Ok u) a b f g x h p = absurd (let e : false ≡ true = h in cc)

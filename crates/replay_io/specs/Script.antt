@@ -5,7 +5,7 @@ use Rattle.std.specs.Option.{option_map}
 use Rattle.replay_io.specs.Numbering.{next_number}
 use Rattle.replay_io.specs.Store.{Store, store_after}
 
--- a store behind puts, some of which fail: `fails` has the number of each put that fails, from 1,
+-- a store under puts, some of which fail: `fails` has the number of each put that fails, from 1,
 -- and how many bytes of its piece it takes before
 pub record Script : Type 0 where
   pub store : Store

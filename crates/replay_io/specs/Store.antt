@@ -1,7 +1,7 @@
--- Bytes in memory behind a limit (this project's own).
+-- Bytes in memory up to a limit (this project's own).
 use Rattle.std.specs.Prelude.{ℕ, List, [], ◌++◌, ◌+◌, ◌-◌, ◌^◌, ◌==◌, Option, Some, None, if◌then◌else◌, length, take, min}
 
--- bytes behind a limit: those that were kept, how many may be kept in all, and how many came beyond that
+-- bytes up to a limit: those that were kept, how many may be kept in all, and how many came beyond that
 pub record Store : Type 0 where
   pub bytes : List ℕ
   pub room : ℕ

@@ -7,6 +7,6 @@ pub record Stream : Type 0 where
   pub held : Option (List ℕ)
   pub faults : ℕ
 
--- where the writer told what it held, it holds a front of the piece behind that
+-- where the writer told what it held, it holds a front of the piece after that
 abbrev pub AppendsFront : Option (List ℕ) → Option (List ℕ) → List ℕ → Type 0
 AppendsFront old new piece = (front rest : List ℕ) × (front ++ rest ≡ piece) × Appends old new front

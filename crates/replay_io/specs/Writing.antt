@@ -1,11 +1,11 @@
 -- What a sink has taken, where it tells, and when it may fail (this project's own).
 use Rattle.std.specs.Prelude.{◌≡◌, ℕ, ◌++◌, ◌+◌, ◌-◌, ◌^◌, ◌≤◌, List, Option, Some, Result, Ok, Err, min}
 
--- where the bytes are told afterwards, they were told before, and all of the text came behind them
+-- where the bytes are told afterwards, they were told before, and all of the text came after them
 abbrev pub Appended : Option (List ℕ) → Option (List ℕ) → List ℕ → Type 0
 Appended before after text = (now : List ℕ) → after ≡ Some now → (was : List ℕ) × (before ≡ Some was) × (now ≡ was ++ text)
 
--- where the bytes are told afterwards, they were told before, and a front of the text came behind them
+-- where the bytes are told afterwards, they were told before, and a front of the text came after them
 abbrev pub AppendedFront : Option (List ℕ) → Option (List ℕ) → List ℕ → Type 0
 AppendedFront before after text =
     (now : List ℕ) → after ≡ Some now → (was front rest : List ℕ) × (before ≡ Some was) × (now ≡ was ++ front) × (front ++ rest ≡ text)

@@ -1,10 +1,10 @@
 //! The outside of a replay: where text goes, where files come from, and the words of the command line.
 #![tactic(auto)]
 
+mod buffer;
 mod failures;
 mod files;
 mod host;
-mod kept;
 mod mem_files;
 mod mem_sink;
 mod sinks;

@@ -4,7 +4,7 @@ ghost use Rattle.replay_io.specs.Script.{failing_put, script_after};
 ghost use Rattle.replay_io.specs.Store.{empty_store, told};
 ghost use Rattle.replay_io.specs.Writing.{Writes};
 
-use crate::kept::Kept;
+use crate::buffer::Buffer;
 use crate::sinks::{Sink, SinkFailed};
 use std::alloc::Global;
 use std::marker::Model;
@@ -13,7 +13,7 @@ use thread_base::NoMemory;
 /// A sink in memory that keeps the first `room` bytes, and whose puts fail where a list says so.
 #[derive(Drop)]
 pub struct MemSink {
-    kept: Kept,
+    buffer: Buffer,
     puts: u32,
     fails: Vec<(u32, u32)>,
     faults: u64,
@@ -24,7 +24,7 @@ impl Model for MemSink {
 
     ghost Value = { Script };
 
-    ghost view = { λ s. record { store = s.kept; puts = s.puts; fails = s.fails.items; faults = s.faults } };
+    ghost view = { λ s. record { store = s.buffer; puts = s.puts; fails = s.fails.items; faults = s.faults } };
 }
 
 impl MemSink {
@@ -34,12 +34,12 @@ impl MemSink {
         ensures { IfOk result (λ s.
             s ≡ record { store = empty_store room; puts = 0; fails = fails.now; faults = 0 }) }
     {
-        let kept = Kept::new(alloc, room)?;
+        let buffer = Buffer::new(alloc, room)?;
         let Ok(fails) = Vec::from_slice(alloc, fails) else {
             return Err(NoMemory);
         };
         Ok(MemSink {
-            kept,
+            buffer,
             puts: 0,
             fails,
             faults: 0,
@@ -51,7 +51,7 @@ impl MemSink {
         ensures kept { result.now ≡ self.now.store.bytes }
         ensures told { IfSome (told self.now.store) (λ bytes. result.now ≡ bytes) }
     {
-        self.kept.bytes()
+        self.buffer.bytes()
     }
 }
 
@@ -78,12 +78,12 @@ impl Sink for MemSink {
         self.puts = self.puts.saturating_add(1);
         match failing_put(&self.fails, self.puts) {
             None => {
-                self.kept.add(piece);
+                self.buffer.add(piece);
                 Ok(())
             }
             Some(count) => {
                 let count = (count as usize).min(piece.len());
-                self.kept.add(&piece[..count]);
+                self.buffer.add(&piece[..count]);
                 self.faults = self.faults.saturating_add(1);
                 Err(SinkFailed)
             }

@@ -2,7 +2,7 @@ ghost use Rattle.std.specs.Prelude.{◌≡◌, List, ℕ, IfOk, IfSome, IsOk};
 ghost use Rattle.replay_io.specs.Store.{empty_store, store_after, told};
 ghost use Rattle.replay_io.specs.Writing.{Writes};
 
-use crate::kept::Kept;
+use crate::buffer::Buffer;
 use crate::sinks::{Sink, SinkFailed};
 use std::alloc::Global;
 use std::marker::Model;
@@ -11,7 +11,7 @@ use thread_base::NoMemory;
 /// A sink in memory that keeps the first `room` bytes, and whose puts never fail.
 #[derive(Drop)]
 pub struct SureSink {
-    kept: Kept,
+    buffer: Buffer,
 }
 
 impl Model for SureSink {
@@ -19,7 +19,7 @@ impl Model for SureSink {
 
     ghost Value = { Store };
 
-    ghost view = { λ s. s.kept };
+    ghost view = { λ s. s.buffer };
 }
 
 impl SureSink {
@@ -27,8 +27,8 @@ impl SureSink {
     pub fn new(alloc: Global, room: u32) -> Result<SureSink, NoMemory>
         ensures { IfOk result (λ s. s ≡ empty_store room) }
     {
-        let kept = Kept::new(alloc, room)?;
-        Ok(SureSink { kept })
+        let buffer = Buffer::new(alloc, room)?;
+        Ok(SureSink { buffer })
     }
 
     /// The bytes that were kept.
@@ -36,7 +36,7 @@ impl SureSink {
         ensures kept { result.now ≡ self.now.bytes }
         ensures told { IfSome (told self.now) (λ bytes. result.now ≡ bytes) }
     {
-        self.kept.bytes()
+        self.buffer.bytes()
     }
 }
 
@@ -51,7 +51,7 @@ impl Sink for SureSink {
         ensures sure { IsOk result }
         ensures after { self.new ≡ store_after self.old piece.now }
     {
-        self.kept.add(piece);
+        self.buffer.add(piece);
         Ok(())
     }
 }

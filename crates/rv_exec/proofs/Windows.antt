@@ -21,7 +21,7 @@ put_within xs at new k room low high =
     get_or-append_right (take at xs) (new ++ drop (at + length new) xs) at k 0 len low
     ∙ get_or_append_left new (drop (at + length new) xs) 0 (k - at) (omega arith)
 
--- behind them it is as it was
+-- after them it is as it was
 pub put_behind : (xs : List ℕ) (at : ℕ) (new : List ℕ) (k : ℕ) → at + length new ≤ length xs → at + length new ≤ k
     → get_or (put_at xs at new) k 0 ≡ get_or xs k 0
 put_behind xs at new k room behind =

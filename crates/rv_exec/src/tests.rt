@@ -156,7 +156,7 @@ fn other_events(rt: HostRuntime) {
         (0x0062_90a3, 0x1_0100, Event::Fault(Sig::of(7))),
         (0x0062_a123, 0x1_0100, Event::Fault(Sig::of(7))),
         (0x0022_a383, 0, Event::Fault(Sig::of(7))),
-        // lb x7, 0(x5); lw x7, 0(x5); sw x6, 0(x5): below the window and behind it
+        // lb x7, 0(x5); lw x7, 0(x5); sw x6, 0(x5): below the window and after it
         (0x0002_8383, 0xffff, Event::Fault(Sig::of(11))),
         (0x0002_a383, 0x2_0000, Event::Fault(Sig::of(11))),
         (0x0062_a023, 0xfffc, Event::Fault(Sig::of(11))),

@@ -105,7 +105,7 @@ without_absent t (u ∷ us) h =
 or_nothing : (a : Bool) → a || (false || false) ≡ a
 or_nothing a = grind arith
 
--- a thread that is put behind a list is in it
+-- a thread that is put after a list is in it
 pub is_in-pushed : (t : ℕ) (ts : List ℕ) → is_in t (ts ++ t ∷ []) ≡ true
 is_in-pushed t ts =
     list_any-append (λ v. eqb t v) ts (t ∷ [])

@@ -65,7 +65,7 @@ module _ (edge : ℕ → Option ℕ) (t : ℕ) where
   first_unseen seen (suc n) u h = not-true (is_in u seen) (and_parts (not (is_in u seen)) (eqb u t || passes_by edge seen n (edge u) t) h).0
 
   module _ (inside : AreWithin edge) where
-    -- the way goes on behind u, which is seen from now on
+    -- the way goes on after u, which is seen from now on
     behind : (n u : ℕ) (seen : List ℕ) → IsOrder (u ∷ seen) → (o : Option ℕ) → edge u ≡ o → passes_by edge (u ∷ seen) n o t ≡ true
         → ((v : ℕ) → 1 ≤ v → v ≤ 64 → passes_by edge (u ∷ seen) n (Some v) t ≡ true → leads edge (63 - length (u ∷ seen)) (Some v) t ≡ true)
         → leads edge (63 - length seen) (Some u) t ≡ true

@@ -62,13 +62,13 @@ abbrev pub with_waiters : (List ℕ → List ℕ) → Option Mutex → Option Mu
 with_waiters change None = None
 with_waiters change (Some mutex) = Some (record mutex { waiters = change mutex.waiters })
 
--- a thread waits behind the others
-abbrev pub behind : ℕ → List ℕ → List ℕ
-behind t waiters = waiters ++ t ∷ []
+-- a thread waits after the others
+abbrev pub appended : ℕ → List ℕ → List ℕ
+appended t waiters = waiters ++ t ∷ []
 
--- a thread waits for a condition with a mutex, behind the others (POSIX.1 pthread_cond_wait)
+-- a thread waits for a condition with a mutex, after the others (POSIX.1 pthread_cond_wait)
 abbrev pub entered_by : ℕ → ℕ → Condition → Condition
-entered_by t m condition = record { mutex = Some m; waiters = behind t condition.waiters }
+entered_by t m condition = record { mutex = Some m; waiters = appended t condition.waiters }
 
 -- the same where there is a condition
 abbrev pub entered : ℕ → ℕ → Option Condition → Option Condition

@@ -115,7 +115,7 @@ module _ (lists : List (List ℕ)) (noted : List (Option ℕ)) (are : AreNoted l
       is_queue : list ≡ queue_of lists n
       is_queue = queue_read lists n list read (omega (arith, are.count))
 
-      -- a thread that stood in no list stands behind all others of this one
+      -- a thread that stood in no list stands after all others of this one
       pub noted_push : ts ≡ list ++ t ∷ [] → o ≡ Some n → IsOrder ts → StandsInNone t (queue_of lists) → AreNoted (set lists n ts) (set noted i o)
       noted_push pushed note order free =
           let is : ts ≡ queue_of lists n ++ t ∷ [] = pushed ∙ ap (λ us. us ++ t ∷ []) is_queue in

@@ -58,7 +58,7 @@ impl TidList {
         self.threads.contains(&t)
     }
 
-    /// Puts a thread that is not there behind all others.
+    /// Puts a thread that is not there after all others.
     pub fn push(&mut self, t: Tid)
         requires { is_in t self.old ≡ false }
         ensures items { self.new ≡ self.old ++ t ∷ [] }
@@ -92,7 +92,7 @@ impl TidList {
     }
 }
 
-/// Of the best thread so far and one behind it, that of the greater level; the earlier of equals.
+/// Of the best thread so far and one after it, that of the greater level; the earlier of equals.
 fn better(levels: &[u8; 64], best: Option<Tid>, t: Tid) -> Tid
     ensures { Some result ≡ better_of (numbered 0 levels.now) best t }
 {

@@ -56,7 +56,7 @@ impl WaitQueues {
         self.awaited[t.index()]
     }
 
-    /// Puts a thread that stands in no list behind all others of one.
+    /// Puts a thread that stands in no list after all others of one.
     pub fn push(&mut self, n: u32, t: Tid)
         requires limit { n < 256 }
         requires free { StandsInNone t (queue_of self.old) }

@@ -2,7 +2,7 @@ use crate::{TidList, WaitQueues};
 use std::test::Fail;
 use thread_base::Tid;
 
-/// Puts a thread behind all others, where it is not there; whether it was put.
+/// Puts a thread after all others, where it is not there; whether it was put.
 fn arrive(list: &mut TidList, number: u32) -> bool {
     let Some(t) = Tid::new(number) else {
         return false;
@@ -14,7 +14,7 @@ fn arrive(list: &mut TidList, number: u32) -> bool {
     true
 }
 
-/// The numbers of the first threads, and 0 behind the last.
+/// The numbers of the first threads, and 0 after the last.
 fn first_numbers(threads: &[Tid]) -> [u32; 4] {
     let mut numbers = [0; 4];
     for (number, t) in numbers.iter_mut().zip(threads.iter()) {
@@ -23,7 +23,7 @@ fn first_numbers(threads: &[Tid]) -> [u32; 4] {
     numbers
 }
 
-/// Puts a thread behind all others of a list, where it stands in none; whether it was put.
+/// Puts a thread after all others of a list, where it stands in none; whether it was put.
 fn wait(queues: &mut WaitQueues, n: u32, number: u32) -> bool {
     let Some(t) = Tid::new(number) else {
         return false;

@@ -22,7 +22,7 @@ same_is d e h = grind (arith, nat_tests)
 abbrev pub raised : Taken → Taken → Taken
 raised item t = record t { count = t.count + item.count }
 
--- a merge at the front, and behind it
+-- a merge at the front, and after it
 pub merged_here : (item t : Taken) (ts : List Taken) → same_event t.event item.event ≡ true → merged item (t ∷ ts) ≡ raised item t ∷ ts
 merged_here item t ts h = rw h refl
 

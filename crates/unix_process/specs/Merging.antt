@@ -31,7 +31,7 @@ IsEvent Input = Unit {0}
 abbrev pub one_entry : UnixEvent → ℕ → Taken
 one_entry e first = record { event = e; first = first; count = 1 }
 
--- the list after an item: the count of its event is raised, or the item stands behind the others
+-- the list after an item: the count of its event is raised, or the item stands after the others
 abbrev pub merged : Taken → List Taken → List Taken
 merged item [] = item ∷ []
 merged item (t ∷ ts) = if same_event t.event item.event then record t { count = t.count + item.count } ∷ ts else t ∷ merged item ts
@@ -79,7 +79,7 @@ CountsAddUp =
     (item : Taken) (ts : List Taken) (e : UnixEvent) →
     count_of e (merged item ts) ≡ count_of e ts + (if same_event item.event e then item.count else 0)
 
--- after a merge the events stand in their order, and a new one behind them
+-- after a merge the events stand in their order, and a new one after them
 abbrev pub OrderStays : Type 0
 OrderStays =
     (item : Taken) (ts : List Taken) →

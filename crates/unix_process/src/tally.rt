@@ -45,7 +45,7 @@ impl Tally {
         self.slots.len()
     }
 
-    /// Adds an item's count to that of its event, or puts the item behind the others.
+    /// Adds an item's count to that of its event, or puts the item after the others.
     pub fn merge(&mut self, item: Taken)
         requires { count_of item.event self.old + item.count < 2 ^ 32 }
         ensures list { self.new ≡ merged item self.old }

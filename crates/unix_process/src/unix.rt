@@ -49,7 +49,7 @@ impl Unix {
     }
 
     /// Lets one more entry of an event pend, of which `first` is the number: 1 is added to the event's
-    /// count, or the event stands behind the others.
+    /// count, or the event stands after the others.
     pub fn accept(&mut self, event: UnixEvent, first: u32)
         requires { count_of event self.old.pending < 2 ^ 32 - 1 }
         ensures { self.new ≡ record self.old {

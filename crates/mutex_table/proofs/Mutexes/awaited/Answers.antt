@@ -6,8 +6,8 @@ use Rattle.mutex_table.proofs.Mutexes.awaited.Goals as goal
 
 pub returns-clause-one : goal.returns-clause-one
 returns-clause-one c =
-    subst (λ (f : ℕ → List ℕ). IfSome c.awaited.result (λ m. is_in c.args.t (f m) ≡ true)) (seen c.self.inside.looks.items c.self.inside.waiters c.self.invariant c.args.self.now c.self.view_is) c.awaited.ensures.one
+    subst (λ (f : ℕ → List ℕ). IfSome c.awaited.result (λ m. is_in c.args.t (f m) ≡ true)) (seen c.self.inside.states.items c.self.inside.waiters c.self.invariant c.args.self.now c.self.view_is) c.awaited.ensures.one
 
 pub returns-clause-none : goal.returns-clause-none
 returns-clause-none c =
-    subst (λ (f : ℕ → List ℕ). IfNone c.awaited.result (StandsInNone c.args.t f)) (seen c.self.inside.looks.items c.self.inside.waiters c.self.invariant c.args.self.now c.self.view_is) c.awaited.ensures.none
+    subst (λ (f : ℕ → List ℕ). IfNone c.awaited.result (StandsInNone c.args.t f)) (seen c.self.inside.states.items c.self.inside.waiters c.self.invariant c.args.self.now c.self.view_is) c.awaited.ensures.none

@@ -5,14 +5,14 @@ use Rattle.mutex_table.proofs.Mutexes.waiters.Goals as goal
 
 pub threads-requires : goal.threads-requires
 threads-requires c =
-    let place = within_shown c.self.inside.looks.items c.self.inside.waiters c.args.self.now c.self.view_is c.args.m c.requires in
+    let place = within_shown c.self.inside.states.items c.self.inside.waiters c.args.self.now c.self.view_is c.args.m c.requires in
     omega (arith, c.self.invariant.count, place)
 
 pub returns-clause-queue : goal.returns-clause-queue
 returns-clause-queue c =
     c.threads.ensures.queue
-    ∙ ap (λ (f : ℕ → List ℕ). f c.args.m) (seen c.self.inside.looks.items c.self.inside.waiters c.self.invariant c.args.self.now c.self.view_is)
+    ∙ ap (λ (f : ℕ → List ℕ). f c.args.m) (seen c.self.inside.states.items c.self.inside.waiters c.self.invariant c.args.self.now c.self.view_is)
 
 pub returns-clause-apart : goal.returns-clause-apart
 returns-clause-apart c =
-    subst AreApart (seen c.self.inside.looks.items c.self.inside.waiters c.self.invariant c.args.self.now c.self.view_is) c.threads.ensures.apart
+    subst AreApart (seen c.self.inside.states.items c.self.inside.waiters c.self.invariant c.args.self.now c.self.view_is) c.threads.ensures.apart

@@ -5,15 +5,15 @@ use std::alloc::Global;
 use std::marker::Model;
 use thread_base::NoMemory;
 
-/// Bytes behind a limit, for the sinks in memory. Those beyond it are counted and not kept.
+/// Bytes up to a limit, for the sinks in memory. Those beyond it are counted and not kept.
 #[derive(Drop)]
-pub struct Kept {
+pub struct Buffer {
     bytes: Vec<u8>,
     room: usize,
     lost: u64,
 }
 
-impl Model for Kept {
+impl Model for Buffer {
     ghost use Rattle.std.specs.Prelude.{◌≤◌, vec_len, vec_capacity};
     ghost use Rattle.replay_io.specs.Store.{Store};
 
@@ -24,16 +24,16 @@ impl Model for Kept {
     ghost invariant = { λ k. (vec_len k.bytes ≤ k.room) × (k.room ≤ vec_capacity k.bytes) };
 }
 
-impl Kept {
+impl Buffer {
     /// Nothing is kept yet. It takes its memory here.
-    pub fn new(alloc: Global, room: u32) -> Result<Kept, NoMemory>
+    pub fn new(alloc: Global, room: u32) -> Result<Buffer, NoMemory>
         ensures { IfOk result (λ k. k ≡ empty_store room) }
     {
         let room = room as usize;
         let Ok(bytes) = Vec::with_capacity(alloc, room) else {
             return Err(NoMemory);
         };
-        Ok(Kept {
+        Ok(Buffer {
             bytes,
             room,
             lost: 0,
