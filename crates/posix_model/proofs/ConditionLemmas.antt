@@ -4,7 +4,7 @@ use Rattle.std.specs.Prelude.{◌==◌, is_some}
 use Rattle.std.proofs.lemmas.Bool.{eqb-true, eq-eqb, not-false}
 use Rattle.thread_base.specs.Maps.{put}
 use Rattle.thread_base.specs.Numbers.{IsTid}
-use Rattle.thread_base.specs.Objects.{cond_mutex, cond_waiters, behind, entered_by, still_bound, without_waiter, is_mutex, condition_numbers}
+use Rattle.thread_base.specs.Objects.{cond_mutex, cond_waiters, appended, entered_by, still_bound, without_waiter, is_mutex, condition_numbers}
 use Rattle.thread_base.specs.Orders.{is_in, without, IsOrder}
 use Rattle.thread_base.proofs.OrderLemmas.{IsOrder-push, IsOrder-filter, is_in-without, is_in-pushed}
 use Rattle.thread_base.proofs.SearchLemmas.{in_range, any_none}
@@ -14,7 +14,7 @@ use Rattle.posix_model.specs.Conditions.{is_other, is_used}
 use Rattle.posix_model.specs.Good.{IsSoundCondition, AreSoundConditions}
 use Rattle.posix_model.specs.declared.Wait.TheVariants.{Cond}
 use Rattle.posix_model.proofs.StandingLemmas.{never, waits_with}
-use Rattle.posix_model.proofs.ListLemmas.{each_put, listed_on, listed_behind, listed_without}
+use Rattle.posix_model.proofs.ListLemmas.{each_put, listed_on, listed_appended, listed_without}
 
 -- a condition for which nobody waits, or that is not there
 pub condition_idle : (standing : ℕ → Standing) (mutexes : ℕ → Option Mutex) (c : ℕ) (o : Option Condition) → (is_some o ≡ true → c < 256)
@@ -108,7 +108,7 @@ module _ (standing : ℕ → Standing) (mutexes : ℕ → Option Mutex) (t : ℕ
       → AreSoundConditions standing mutexes conditions → AreSoundConditions (put standing t st) mutexes conditions
   conditions_apart conditions after before sound c = condition_apart c (conditions c) (after c) (before c) (sound c)
 
--- a thread waits for a condition with a mutex, behind the others
+-- a thread waits for a condition with a mutex, after the others
 pub condition_entered : (standing : ℕ → Standing) (mutexes : ℕ → Option Mutex) (t c m count : ℕ) (condition : Condition) → IsTid t → waits_on c (standing t) ≡ false
     → is_some (mutexes m) ≡ true → is_other m condition.mutex ≡ false
     → IsSoundCondition standing mutexes c (Some condition) → IsSoundCondition (put standing t (Waits (Cond c m None count))) mutexes c (Some (entered_by t m condition))
@@ -118,12 +118,12 @@ condition_entered standing mutexes t c m count condition range awake there free 
     record {
       within = sound.within;
       order = IsOrder-push ws t sound.order range.0 range.1 (sound.listed t ∙ awake);
-      listed = listed_behind (waits_on c) standing t st ws sound.listed (eq-eqb c c refl);
+      listed = listed_appended (waits_on c) standing t st ws sound.listed (eq-eqb c c refl);
       together =
           each_put (λ u x. waits_on c x ≡ true → mutex_with x ≡ Some m) standing t st (λ h. refl)
           (λ u ne h. one_mutex m condition.mutex (mutex_with (standing u)) (waits_with c (standing u) h) (sound.together u h) free);
       there = λ k e. (let same : m ≡ k = (let f : Some m ≡ Some k = e in cc) in subst (λ j. is_some (mutexes j) ≡ true) same there);
-      unused = λ e. absurd (never (is_in t (behind t ws)) (is_in-pushed t ws) (ap (is_in t) e));
+      unused = λ e. absurd (never (is_in t (appended t ws)) (is_in-pushed t ws) (ap (is_in t) e));
     }
 
 -- a condition whose waiters use a mutex is there

@@ -24,7 +24,7 @@ use Rattle.posix_model.proofs.MutexLemmas.{mutex_stays, mutexes_stay}
 use Rattle.posix_model.proofs.ConditionLemmas.{condition_idle, condition_left, condition_entered, conditions_put}
 use Rattle.posix_model.proofs.GoodLemmas.{good_alike, good_reply, good_asleep, ready_on, ready_without}
 use Rattle.posix_model.proofs.GoodReplies.{GoodCall, IsGoodRow, AreGoodRows, good_refused, good_refusing, good_lookup}
-use Rattle.posix_model.proofs.GoodHands.{sound_here, good_queued, good_given, good_hand}
+use Rattle.posix_model.proofs.GoodHands.{sound_here, good_queued, good_given, good_hand_off}
 
 -- one condition changes, and nothing else
 good_condition : (s : State) (c : ℕ) (o : Option Condition) → IsGood s → IsSoundCondition (standings s) s.mutexes c o → IsGood (set_condition s c o)
@@ -118,7 +118,7 @@ good_cond_wait_of s t c None m mutex good ready here there = good_refused s t EI
 good_cond_wait_of s t c (Some condition) m None good ready here there = good_refused s t EINVAL good
 good_cond_wait_of s t c (Some condition) m (Some mutex) good ready here there =
     good_refusing s t ((not (is_held_by mutex.holder t), EPERM) ∷ (is_other m condition.mutex, EINVAL) ∷ []) (wait_and_release s t c condition m mutex) good (λ may.
-    good_hand (await_condition s t c condition m mutex) m mutex
+    good_hand_off (await_condition s t c condition m mutex) m mutex
     (good_await_condition s t c condition m mutex good ready here there (not-false (is_held_by mutex.holder t) may.0) may.1.0)
     there (eff s) (best_waiter s mutex) refl)
 

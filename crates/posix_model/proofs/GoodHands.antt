@@ -13,7 +13,7 @@ use Rattle.thread_base.proofs.MapLemmas.{put_same}
 use Rattle.thread_base.proofs.PriorityLemmas.{first_in, first_some}
 use Rattle.posix_model.specs.State.{State, Thread, Mutex, Condition, Standing, Ready, Waits, EndOf, MutexAt, ConditionAt, aim, target, is_target, is_ready, is_live, wants, count_due}
 use Rattle.posix_model.specs.Changes.{begun, resumed}
-use Rattle.posix_model.specs.Mutexes.{set_mutex, with_waiter, reply_due, hand}
+use Rattle.posix_model.specs.Mutexes.{set_mutex, with_waiter, reply_due, hand_off}
 use Rattle.posix_model.specs.Good.{standings, IsGood, IsReadyList, IsSoundMutex, AreSoundConditions, IsCount}
 use Rattle.posix_model.specs.declared.RetakeReply.{RetakeReply}
 use Rattle.posix_model.specs.declared.RetakeReply.TheVariants.{Answer, Cancel}
@@ -52,7 +52,7 @@ module _ (s : State) (m : ℕ) (mutex : Mutex) (good : IsGood s) (there : s.mute
       good_mutex s m (Some (record mutex { holder = Held t count })) good (λ c k e. stay_put s.mutexes m (record mutex { holder = Held t count }) k)
       (mutex_held (standings s) m t count mutex live many sound_here)
 
-  -- a thread that waited for no mutex waits behind the others for one that is not free, and the conditions change beside
+  -- a thread that waited for no mutex waits after the others for one that is not free, and the conditions change beside
   pub good_queued : (t : ℕ) (wait : Wait) (list : List ℕ) (conditions : ℕ → Option Condition) → is_free mutex.holder ≡ false → IsTid t
       → IsReadyList (put (standings s) t (Waits wait)) list → aim wait ≡ MutexAt m → ((k : ℕ) → wants k (standings s t) ≡ false)
       → AreSoundConditions (put (standings s) t (Waits wait)) s.mutexes conditions → IsCount (count_due (Waits wait))
@@ -82,11 +82,11 @@ module _ (s : State) (m : ℕ) (mutex : Mutex) (good : IsGood s) (there : s.mute
       (conditions_on (put (standings s) t Ready) s.mutexes (put s.mutexes m (Some given)) conditions (λ c k e. stay_put s.mutexes m given k) agreed)
 
   -- the mutex is handed over, by whoever is first: to a waiter, who goes on, or to nobody
-  pub good_hand : (p : ℕ → ℕ) (who : Option ℕ) → first_greatest p mutex.waiters ≡ who → IsGood (hand (begun s) m mutex who).state
-  good_hand p None e =
+  pub good_hand_off : (p : ℕ → ℕ) (who : Option ℕ) → first_greatest p mutex.waiters ≡ who → IsGood (hand_off (begun s) m mutex who).state
+  good_hand_off p None e =
       good_mutex s m (Some (record mutex { holder = Free })) good (λ c k f. stay_put s.mutexes m (record mutex { holder = Free }) k)
       (mutex_freed (standings s) m mutex (first_none p mutex.waiters e) sound_here)
-  good_hand p (Some u) e =
+  good_hand_off p (Some u) e =
       let wanted : wants m (standings s u) ≡ true = sym (sound_here.listed u) ∙ first_in p mutex.waiters u e in
       let is = target_is (MutexAt m) (target (standings s u)) wanted in
       let was = wants_waits m (standings s u) wanted in

@@ -3,7 +3,7 @@ use Rattle.std.proofs.Common.{◌≡◌, ◌∙◌, ap, sym, refl, subst, ℕ, B
 use Rattle.std.proofs.lemmas.Bool.{eqb-true}
 use Rattle.thread_base.specs.Maps.{put}
 use Rattle.thread_base.specs.Numbers.{IsTid}
-use Rattle.thread_base.specs.Objects.{behind}
+use Rattle.thread_base.specs.Objects.{appended}
 use Rattle.thread_base.specs.Orders.{without}
 use Rattle.thread_base.specs.Priority.{tids}
 use Rattle.thread_base.proofs.MapLemmas.{map_put, put_got, kept}
@@ -17,7 +17,7 @@ use Rattle.posix_model.specs.Good.{standings, detachments, IsReadyList, AreWithi
 use Rattle.posix_model.specs.declared.Wait.{Wait}
 use Rattle.posix_model.specs.declared.Wait.TheVariants.{Join}
 use Rattle.posix_model.proofs.StandingLemmas.{never, ready_live, ready_target, ready_wants, ready_waits_on, target_is, waiting, once, dead}
-use Rattle.posix_model.proofs.ListLemmas.{each_put, listed_on, listed_behind, listed_without}
+use Rattle.posix_model.proofs.ListLemmas.{each_put, listed_on, listed_appended, listed_without}
 use Rattle.posix_model.proofs.MutexLemmas.{mutexes_stay, mutexes_orphaned}
 use Rattle.posix_model.proofs.ConditionLemmas.{conditions_on, conditions_apart, stay_orphaned}
 
@@ -82,10 +82,10 @@ module _ (standing : ℕ → Standing) (t : ℕ) (st : Standing) where
   pub ready_on : (list : List ℕ) → is_ready st ≡ is_ready (standing t) → IsReadyList standing list → IsReadyList (put standing t st) list
   ready_on list same sound = record { order = sound.order; listed = listed_on is_ready standing t st list sound.listed same }
 
-  pub ready_behind : (list : List ℕ) → IsTid t → is_ready (standing t) ≡ false → is_ready st ≡ true → IsReadyList standing list → IsReadyList (put standing t st) (behind t list)
-  ready_behind list range before after sound = record {
+  pub ready_appended : (list : List ℕ) → IsTid t → is_ready (standing t) ≡ false → is_ready st ≡ true → IsReadyList standing list → IsReadyList (put standing t st) (appended t list)
+  ready_appended list range before after sound = record {
     order = IsOrder-push list t sound.order range.0 range.1 (sound.listed t ∙ before);
-    listed = listed_behind is_ready standing t st list sound.listed after;
+    listed = listed_appended is_ready standing t st list sound.listed after;
   }
 
   pub ready_without : (list : List ℕ) → is_ready st ≡ false → IsReadyList standing list → IsReadyList (put standing t st) (without t list)
@@ -153,7 +153,7 @@ pub good_awoken : (s : State) (t : ℕ) (thread : Thread) (mutexes : ℕ → Opt
 good_awoken s t thread mutexes conditions good away range joinable sound agreed =
     good_change s t (record thread { standing = Ready; used = 0 }) (awoken s t thread mutexes conditions) refl
     (record {
-      ready = ready_behind (standings s) t Ready s.ready range away refl good.ready;
+      ready = ready_appended (standings s) t Ready s.ready range away refl good.ready;
       within = within_put (standings s) t Ready good.within (λ h. range);
       joining = joining_put (standings s) (detachments s) t good.joining Ready thread.detached (λ u h. absurd (never false h refl)) (λ v j. (refl, joinable v j));
       mutexes = sound;

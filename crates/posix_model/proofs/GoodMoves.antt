@@ -18,14 +18,15 @@ use Rattle.posix_model.specs.Scheduling.{eff, chosen}
 use Rattle.posix_model.specs.Changes.{begun, set_registers, answer}
 use Rattle.posix_model.specs.Threads.{joiner, some_live}
 use Rattle.posix_model.specs.Leaving.{remains, without_thread, over_with_last, end_with}
-use Rattle.posix_model.specs.Calls.{call_number, arguments}
+use Rattle.posix_model.specs.Calls.{call, call_number, arguments}
 use Rattle.posix_model.specs.Deliveries.{faulted, Delivery, delivered, next_delivery}
 use Rattle.posix_model.specs.Instructions.{by_effect, instruction, returned, segmentation_fault, went_on}
 use Rattle.posix_model.specs.Runs.{Moment, Allowed, IsRun, moved, after}
 use Rattle.posix_model.specs.Start.{start_state, main_thread}
 use Rattle.posix_model.specs.Good.{standings, IsGood, IsCount}
-use Rattle.posix_model.specs.Laws.{Goodness}
+use Rattle.posix_model.specs.Laws.{Goodness, InstructionsKeepGood, DeliveriesKeepGood}
 use Rattle.posix_model.specs.declared.Ending.TheVariants.{Exit}
+use Rattle.posix_model.specs.declared.Arguments.{Arguments}
 use Rattle.posix_model.specs.declared.Move.{Move}
 use Rattle.posix_model.specs.declared.Move.TheVariants.{Instr, Arrive, Deliver}
 use Rattle.posix_model.specs.declared.Settings.{Settings}
@@ -128,6 +129,18 @@ good_start memory entry =
           condition_idle standing no_mutexes c None (λ h. absurd (never false h refl)) (each_put (λ w st. waits_on c st ≡ false) (λ t. Absent) 1 Ready refl (λ w ne. refl)) refl refl;
       counts = each_put (λ w st. IsCount (count_due st)) (λ t. Absent) 1 Ready once (λ w ne. once);
     })
+
+pub instructions_keep_good : InstructionsKeepGood
+instructions_keep_good s t good first =
+    let turn = chosen_ready s t good first in (
+      λ r memory. good_went_on s t r memory good,
+      λ number c. good_call s t number c good turn.0,
+      λ which. good_returned s t which (s.threads t).phase good turn.0 turn.1,
+      λ sig. good_faulted s t sig good,
+    )
+
+pub deliveries_keep_good : DeliveriesKeepGood
+deliveries_keep_good s good = good_delivered s (next_delivery s) good
 
 pub goodness : Goodness
 goodness = (good_start, good_move, good_run)

@@ -11,7 +11,7 @@ use Rattle.thread_base.proofs.MapLemmas.{put_other}
 use Rattle.posix_model.specs.State.{State, Mutex, Standing, Waits, is_ready}
 use Rattle.posix_model.specs.Scheduling.{eff}
 use Rattle.posix_model.specs.Changes.{begun}
-use Rattle.posix_model.specs.Mutexes.{most_locks, set_mutex, locked_by, best_waiter, hand}
+use Rattle.posix_model.specs.Mutexes.{most_locks, set_mutex, locked_by, best_waiter, hand_off}
 use Rattle.posix_model.specs.Conditions.{is_used}
 use Rattle.posix_model.specs.Replies.{values}
 use Rattle.posix_model.specs.MutexCalls.{new_mutex, cannot_init, mutex_init, destroy_of, mutex_destroy, is_checked, is_counted, is_full, is_open_to, take, queue, lock_of, lock, trylock_of, trylock, released, unlock_of, unlock, mutex_calls}
@@ -22,7 +22,7 @@ use Rattle.posix_model.proofs.MutexLemmas.{is_none_held, mutex_idle, nobody_want
 use Rattle.posix_model.proofs.ConditionLemmas.{stay_put, conditions_apart, used_other}
 use Rattle.posix_model.proofs.GoodLemmas.{good_reply, ready_without}
 use Rattle.posix_model.proofs.GoodReplies.{GoodCall, IsGoodRow, AreGoodRows, good_refusing, good_lookup}
-use Rattle.posix_model.proofs.GoodHands.{good_mutex, sound_here, good_held, good_queued, good_hand}
+use Rattle.posix_model.proofs.GoodHands.{good_mutex, sound_here, good_held, good_queued, good_hand_off}
 
 good_mutex_init : IsGoodRow mutex_init
 good_mutex_init s t c good ready =
@@ -89,8 +89,8 @@ module _ (s : State) (t m : ℕ) (mutex : Mutex) (good : IsGood s) (ready : is_r
       (λ may. good_lock_by (is_open_to t mutex) may.1.0 refl)
 
   good_released : (b : Bool) → is_held_by mutex.holder t ≡ true → count_of mutex.holder == 1 ≡ b
-      → IsGood (if b then hand (begun s) m mutex (best_waiter s mutex) else begun (set_mutex s m (Some (record mutex { holder = Held t (count_of mutex.holder - 1) })))).state
-  good_released true held last = good_hand s m mutex good there (eff s) (best_waiter s mutex) refl
+      → IsGood (if b then hand_off (begun s) m mutex (best_waiter s mutex) else begun (set_mutex s m (Some (record mutex { holder = Held t (count_of mutex.holder - 1) })))).state
+  good_released true held last = good_hand_off s m mutex good there (eff s) (best_waiter s mutex) refl
   good_released false held more =
       let may = sound.owned t held in
       let least = may.least in

@@ -47,7 +47,7 @@ good_lookup {A = A} look row none some s t c good ready = by (look s c.a0) refl
     by None e = subst GoodCall (sym (none s t c.a0)) (good_refused s t EINVAL good)
     by (Some x) e = some s t c.a0 x good ready e
 
--- the row of a number in a list of good rows, and in those behind
+-- the row of a number in a list of good rows, and in those after
 pub good_row_of : (number : ℕ) (entries others : List Entry) → AreGoodRows entries → IsGoodRow (row_of others number) → IsGoodRow (row_of (entries ++ others) number)
 good_row_of number [] others rows more s t c good ready = more s t c good ready
 good_row_of number (entry ∷ entries) others rows more s t c good ready = by (number == entry.0) (good_row_of number entries others rows.1 more s t c good ready)

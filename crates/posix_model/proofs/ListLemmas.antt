@@ -2,7 +2,7 @@
 use Rattle.std.proofs.Common.{◌≡◌, ◌≢◌, ◌∙◌, sym, subst, inl, inr, ℕ, Bool, true, false, List}
 use Rattle.std.proofs.lemmas.Bool.{cases_eq}
 use Rattle.thread_base.specs.Maps.{put}
-use Rattle.thread_base.specs.Objects.{behind}
+use Rattle.thread_base.specs.Objects.{appended}
 use Rattle.thread_base.specs.Orders.{is_in, without}
 use Rattle.thread_base.proofs.MapLemmas.{put_same, put_other, kept}
 use Rattle.thread_base.proofs.OrderLemmas.{not_in-without, is_in-without, is_in-push, is_in-pushed}
@@ -20,8 +20,8 @@ module _ {A : Type 0} (test : A → Bool) (standing : ℕ → A) (t : ℕ) (st :
   pub listed_on : test st ≡ test (standing t) → (u : ℕ) → is_in u ts ≡ test (put standing t st u)
   listed_on same u = listed u ∙ sym (kept test standing t u st same)
 
-  pub listed_behind : test st ≡ true → (u : ℕ) → is_in u (behind t ts) ≡ test (put standing t st u)
-  listed_behind passes = each_put (λ u x. is_in u (behind t ts) ≡ test x) standing t st (is_in-pushed t ts ∙ sym passes) (λ u ne. is_in-push t u ts ne ∙ listed u)
+  pub listed_appended : test st ≡ true → (u : ℕ) → is_in u (appended t ts) ≡ test (put standing t st u)
+  listed_appended passes = each_put (λ u x. is_in u (appended t ts) ≡ test x) standing t st (is_in-pushed t ts ∙ sym passes) (λ u ne. is_in-push t u ts ne ∙ listed u)
 
   pub listed_without : test st ≡ false → (u : ℕ) → is_in u (without t ts) ≡ test (put standing t st u)
   listed_without fails = each_put (λ u x. is_in u (without t ts) ≡ test x) standing t st (not_in-without t ts ∙ sym fails) (λ u ne. is_in-without t u ts ne ∙ listed u)

@@ -14,7 +14,7 @@ use Rattle.posix_model.specs.State.{Standing, Mutex, is_live, wants}
 use Rattle.posix_model.specs.Mutexes.{with_waiter, orphan_in, orphaned}
 use Rattle.posix_model.specs.Good.{IsSoundMutex, AreSoundMutexes, MayHold, IsCount}
 use Rattle.posix_model.proofs.StandingLemmas.{never}
-use Rattle.posix_model.proofs.ListLemmas.{each_put, listed_on, listed_behind, listed_without}
+use Rattle.posix_model.proofs.ListLemmas.{each_put, listed_on, listed_appended, listed_without}
 
 pub is_none_held : (holder : Holder) → is_free holder ≡ true → holder ≡ Free
 is_none_held Free h = refl
@@ -91,12 +91,12 @@ module _ (standing : ℕ → Standing) (t : ℕ) (st : Standing) where
     unwanted = sound.unwanted;
   }
 
-  -- it waits for the mutex from now on, behind the others
+  -- it waits for the mutex from now on, after the others
   pub mutex_entered : (m : ℕ) (mutex : Mutex) → IsTid t → wants m (standing t) ≡ false → wants m st ≡ true → is_live st ≡ true → is_free mutex.holder ≡ false
       → IsSoundMutex standing m (Some mutex) → IsSoundMutex (put standing t st) m (Some (with_waiter t mutex))
   mutex_entered m mutex range before after alive taken sound = record {
     order = IsOrder-push mutex.waiters t sound.order range.0 range.1 (sound.listed t ∙ before);
-    listed = listed_behind (wants m) standing t st mutex.waiters sound.listed after;
+    listed = listed_appended (wants m) standing t st mutex.waiters sound.listed after;
     owned = owners mutex.holder (λ h. alive) sound.owned;
     unwanted = λ h. absurd (never (is_free mutex.holder) h taken);
   }

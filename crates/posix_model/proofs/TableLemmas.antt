@@ -18,7 +18,7 @@ abbrev AllNumbers : (ℕ → Type 0) → List Entry → Type 0
 AllNumbers P entries = AllByRecursion (λ (entry : Entry). P entry.0) entries
 
 module _ (P : ℕ → Type 0) (s : State) (t number : ℕ) (c : Arguments) (other : P number → ⊥) where
-  -- calls with a property that the number does not have, before others and behind others
+  -- calls with a property that the number does not have, before others and after others
   before_its : (entries others : List Entry) → AllNumbers P entries → row_of (entries ++ others) number s t c ≡ row_of others number s t c
   before_its [] others all = refl
   before_its (entry ∷ entries) others all = by (number == entry.0) (λ same. other (subst P (sym (eqb-true number entry.0 same)) all.0)) (before_its entries others all.1)
@@ -28,9 +28,9 @@ module _ (P : ℕ → Type 0) (s : State) (t number : ℕ) (c : Arguments) (othe
       by true apart rest = absurd (apart refl)
       by false apart rest = rest
 
-  behind_its : (entries others : List Entry) → AllNumbers P others → row_of (entries ++ others) number s t c ≡ row_of entries number s t c
-  behind_its [] others all = ap (λ calls. row_of calls number s t c) (sym (append-nil others)) ∙ before_its others [] all
-  behind_its (entry ∷ entries) others all = ap (λ rest. if number == entry.0 then entry.1 s t c else rest) (behind_its entries others all)
+  after_its : (entries others : List Entry) → AllNumbers P others → row_of (entries ++ others) number s t c ≡ row_of entries number s t c
+  after_its [] others all = ap (λ calls. row_of calls number s t c) (sym (append-nil others)) ∙ before_its others [] all
+  after_its (entry ∷ entries) others all = ap (λ rest. if number == entry.0 then entry.1 s t c else rest) (after_its entries others all)
 
 -- it is this family
 abbrev is_family : Family → Family → Bool
@@ -48,7 +48,7 @@ unfolding call_row
 thread_row s t number c e =
     let own = λ (h : IsBeside Threads number). never true refl (sym (ap (is_family Threads) e) ∙ h) in
     before_its (IsBeside Threads) s t number c own signal_calls (thread_calls ++ sync_calls) (search rules)
-    ∙ behind_its (IsBeside Threads) s t number c own thread_calls sync_calls (search rules)
+    ∙ after_its (IsBeside Threads) s t number c own thread_calls sync_calls (search rules)
 
 pub sync_row : (s : State) (t number : ℕ) (c : Arguments) → family_of number ≡ Sync → call_row s t number c ≡ row_of sync_calls number s t c
 unfolding call_row
@@ -60,8 +60,8 @@ pub signal_row : (s : State) (t number : ℕ) (c : Arguments) → family_of numb
 unfolding call_row
 signal_row s t number c e =
     let own = λ (h : IsBeside Signals number). never true refl (sym (ap (is_family Signals) e) ∙ h) in
-    behind_its (IsBeside Signals) s t number c own signal_calls (thread_calls ++ sync_calls) (search rules)
+    after_its (IsBeside Signals) s t number c own signal_calls (thread_calls ++ sync_calls) (search rules)
 
 pub unknown_row : (s : State) (t number : ℕ) (c : Arguments) → (IsCall number → ⊥) → call_row s t number c ≡ refused s t ENOSYS
 unfolding call_row
-unknown_row s t number c none = behind_its IsCall s t number c none [] table (search rules)
+unknown_row s t number c none = after_its IsCall s t number c none [] table (search rules)

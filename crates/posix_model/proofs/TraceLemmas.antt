@@ -1,4 +1,4 @@
--- Runs and their texts: one move more, and one run behind another.
+-- Runs and their texts: one move more, and one run after another.
 use Rattle.std.proofs.Common.{◌≡◌, ◌∙◌, ap, sym, refl, ℕ, ◌+◌, ◌-◌, ◌*◌, ◌<◌, ◌≤◌, List, [], ◌∷◌, ◌++◌, Option, Some, None, append_assoc, append-nil, arith}
 use Rattle.std.proofs.lemmas.Bool.{eq-eqb}
 use Rattle.posix_model.specs.declared.Settings.{Settings}
@@ -9,7 +9,7 @@ use Rattle.posix_model.specs.declared.Ending.{Ending}
 use Rattle.posix_model.specs.declared.Move.TheVariants.{Instr, Arrive, Deliver}
 use Rattle.posix_model.specs.declared.Move.{Move}
 
--- two runs, one behind the other
+-- two runs, one after the other
 pub IsRun-append : (settings : Settings) (now : Moment) (moves others : List Move)
     → IsRun settings now moves → IsRun settings (after now moves) others → IsRun settings now (moves ++ others)
 IsRun-append settings now [] others first second = second

@@ -27,7 +27,7 @@ abbrev pub set_registers : State → ℕ → Registers → State
 set_registers s t r = set_thread s t (record (s.threads t) { registers = r })
 
 -- the registers after an answer: a call below 256 answers in a0 the value or 2^32 minus the error,
--- another answers the error in a0 and the value in a1; the thread goes on behind its call
+-- another answers the error in a0 and the value in a1; the thread goes on after its call
 -- (this project's own packing; the first is that of Linux on RISC-V)
 abbrev pub answered : Registers → ℕ → ℕ → Registers
 answered r error value = record {
@@ -81,7 +81,7 @@ with_answer report t error value = record report {
   values = slice_set report.values (t - 1) (error, value);
 }
 
--- a waiting thread is answered: it goes on behind its call, and becomes ready
+-- a waiting thread is answered: it goes on after its call, and becomes ready
 abbrev pub answer : Outcome → ℕ → ℕ → ℕ → Outcome
 answer g t error value = record {
   state = append g.state t (with_reply (g.state.threads t) error value);

@@ -7,7 +7,7 @@ use Rattle.thread_base.specs.declared.Errno.TheVariants.{EPERM, EBUSY, EINVAL}
 use Rattle.posix_model.specs.State.{State, Mutex, Condition}
 use Rattle.posix_model.specs.Scheduling.{eff}
 use Rattle.posix_model.specs.Changes.{Outcome, begun, await}
-use Rattle.posix_model.specs.Mutexes.{best_waiter, hand}
+use Rattle.posix_model.specs.Mutexes.{best_waiter, hand_off}
 use Rattle.posix_model.specs.Conditions.{set_condition, is_other, wake, wake_all, in_order, next_woken}
 use Rattle.posix_model.specs.Replies.{Called, Entry, values, refused, refusing}
 use Rattle.posix_model.specs.declared.Arguments.{Arguments}
@@ -33,7 +33,7 @@ cond_destroy_of s t c (Some condition) =
 abbrev pub cond_destroy : State → ℕ → Arguments → Called
 cond_destroy s t c = cond_destroy_of s t c.a0 (s.conditions c.a0)
 
--- the caller waits for a condition, behind the others, and keeps in mind how often it has its mutex
+-- the caller waits for a condition, after the others, and keeps in mind how often it has its mutex
 abbrev pub await_condition : State → ℕ → ℕ → Condition → ℕ → Mutex → State
 await_condition s t c condition m mutex =
     await (set_condition s c (Some (entered_by t m condition))) t (Cond c m None (count_of mutex.holder))
@@ -41,7 +41,7 @@ await_condition s t c condition m mutex =
 -- the caller waits, and its mutex is handed over
 abbrev pub wait_and_release : State → ℕ → ℕ → Condition → ℕ → Mutex → Called
 wait_and_release s t c condition m mutex =
-    record { outcome = hand (begun (await_condition s t c condition m mutex)) m mutex (best_waiter s mutex); reply = Block }
+    record { outcome = hand_off (begun (await_condition s t c condition m mutex)) m mutex (best_waiter s mutex); reply = Block }
 
 -- a wait for a condition with a mutex
 abbrev pub cond_wait_of : State → ℕ → ℕ → Option Condition → ℕ → Option Mutex → Called

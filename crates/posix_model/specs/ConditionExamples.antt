@@ -55,7 +55,7 @@ condition_after called c = called.outcome.state.conditions c
 abbrev pub wait_on : State → ℕ → ℕ → ℕ → Called
 wait_on s t c m = cond_wait s t (with_arguments c m 0 0)
 
--- who waits stands behind the other waiters, and its mutex goes to who waits for it, or is free, at once
+-- who waits stands after the other waiters, and its mutex goes to who waits for it, or is free, at once
 abbrev pub ConditionWaits : Type 0
 ConditionWaits =
     let first : Called = wait_on two_conditions 1 0 0 in

@@ -42,7 +42,7 @@ circle_own = put (put (put (λ t. 0) 2 8) 3 10) 4 20
 abbrev pub circle_edge : Option ℕ → ℕ → Option ℕ
 circle_edge third = put (put (put (λ t. None) 2 (Some 3)) 3 (Some 2)) 4 third
 
--- both of a circle have the priority of a thread behind it, and without it the greater of their own
+-- both of a circle have the priority of a thread that waits for one of them, and without it the greater of their own
 abbrev pub Circle : Type 0
 Circle =
     (effective circle_own (circle_edge (Some 2)) 2 ≡ 20) × (effective circle_own (circle_edge (Some 2)) 3 ≡ 20)
@@ -87,7 +87,7 @@ ready_after called = called.outcome.state.ready
 abbrev pub standing_after : Called → ℕ → Standing
 standing_after called t = (called.outcome.state.threads t).standing
 
--- create gives the least number, behind all others; a thread of greater priority runs at once, and the
+-- create gives the least number, after all others; a thread of greater priority runs at once, and the
 -- creator keeps its place
 abbrev pub Create : Type 0
 Create =
@@ -141,7 +141,7 @@ Detaches =
     × (reply_of (detach six_threads 1 (with_arguments 5 0 0 0)) ≡ Values 22 0)
     × (reply_of (detach six_threads 1 (with_arguments 2 0 0 0)) ≡ Values 22 0)
 
--- a yield goes behind the others of its priority
+-- a yield goes after the others of its priority
 abbrev pub Yields : Type 0
 Yields =
     let yielded : Called = yield six_threads 1 (with_arguments 0 0 0 0) in

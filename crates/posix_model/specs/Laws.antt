@@ -2,9 +2,13 @@
 use Rattle.std.specs.Prelude.{ℕ, ◌≡◌, ◌≤◌, ◌⊎◌, true, false, List, ◌∷◌, Some, is_some}
 use Rattle.thread_base.specs.Orders.{without, IsOrder}
 use Rattle.thread_base.specs.Priority.{first_greatest, IsEffective}
-use Rattle.posix_model.specs.State.{State, waits_on}
+use Rattle.rv_exec.specs.declared.Special.{Special}
+use Rattle.posix_model.specs.State.{State, Registers, waits_on}
 use Rattle.posix_model.specs.declared.Settings.{Settings}
-use Rattle.posix_model.specs.Scheduling.{own, edge, eff}
+use Rattle.posix_model.specs.Scheduling.{own, edge, eff, chosen}
+use Rattle.posix_model.specs.Calls.{call}
+use Rattle.posix_model.specs.Deliveries.{faulted, deliver}
+use Rattle.posix_model.specs.Instructions.{went_on, returned}
 use Rattle.posix_model.specs.Conditions.{in_order}
 use Rattle.posix_model.specs.ConditionCalls.{cond_broadcast}
 use Rattle.posix_model.specs.Good.{IsGood}
@@ -55,6 +59,20 @@ Goodness =
     ((memory : List ℕ) (entry : ℕ) → IsGood (start memory entry).state)
     × ((settings : Settings) (now : Moment) (move : Move) → IsGood now.state → Allowed settings now move → IsGood (moved now move).state)
     × ((settings : Settings) (now : Moment) (moves : List Move) → IsGood now.state → IsRun settings now moves → IsGood (after now moves).state)
+
+-- whatever the chosen thread does in one instruction keeps a good state good: a plain one, a call of any number with
+-- any arguments, a special return, a fault
+abbrev pub InstructionsKeepGood : Type 0
+InstructionsKeepGood =
+    (s : State) (t : ℕ) → IsGood s → chosen s ≡ Some t →
+    ((registers : Registers) (memory : List ℕ) → IsGood (went_on s t registers memory).state)
+    × ((number : ℕ) (c : Arguments) → IsGood (call s t number c).state)
+    × ((which : Special) → IsGood (returned s t which (s.threads t).phase).state)
+    × ((signal : ℕ) → IsGood (faulted s t signal).state)
+
+-- the next delivery keeps a good state good
+abbrev pub DeliveriesKeepGood : Type 0
+DeliveriesKeepGood = (s : State) → IsGood s → IsGood (deliver s).state
 
 -- a thread's effective priority is the greatest own priority over the thread itself and every thread from which
 -- a chain of waits leads to it (POSIX.1 priority inheritance)

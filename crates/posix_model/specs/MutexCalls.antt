@@ -11,7 +11,7 @@ use Rattle.thread_base.specs.declared.mutex.Kind.TheVariants.{Normal, ErrorCheck
 use Rattle.thread_base.specs.declared.mutex.Protocol.TheVariants.{Plain}
 use Rattle.posix_model.specs.State.{State, Mutex}
 use Rattle.posix_model.specs.Changes.{Outcome, begun}
-use Rattle.posix_model.specs.Mutexes.{most_locks, set_mutex, locked_by, with_waiter, best_waiter, hand}
+use Rattle.posix_model.specs.Mutexes.{most_locks, set_mutex, locked_by, with_waiter, best_waiter, hand_off}
 use Rattle.posix_model.specs.Conditions.{is_used}
 use Rattle.posix_model.specs.Replies.{Called, Entry, values, refused, refusing, blocked}
 use Rattle.posix_model.specs.declared.Arguments.{Arguments}
@@ -54,24 +54,24 @@ abbrev pub mutex_destroy : State → ℕ → Arguments → Called
 mutex_destroy s t c = destroy_of s t c.a0 (s.mutexes c.a0)
 
 -- it answers an error where its owner locks it again
-abbrev pub checks : Kind → Bool
-checks Normal = false
-checks ErrorCheck = true
-checks Recursive = false
+abbrev pub is_error_checking : Kind → Bool
+is_error_checking Normal = false
+is_error_checking ErrorCheck = true
+is_error_checking Recursive = false
 
 -- it counts where its owner locks it again
-abbrev pub counts : Kind → Bool
-counts Normal = false
-counts ErrorCheck = false
-counts Recursive = true
+abbrev pub is_recursive : Kind → Bool
+is_recursive Normal = false
+is_recursive ErrorCheck = false
+is_recursive Recursive = true
 
 -- its owner locks it again, which is an error
 abbrev pub is_checked : ℕ → Mutex → Bool
-is_checked t mutex = checks mutex.kind && is_held_by mutex.holder t
+is_checked t mutex = is_error_checking mutex.kind && is_held_by mutex.holder t
 
 -- its owner locks it again, which counts
 abbrev pub is_counted : ℕ → Mutex → Bool
-is_counted t mutex = counts mutex.kind && is_held_by mutex.holder t
+is_counted t mutex = is_recursive mutex.kind && is_held_by mutex.holder t
 
 -- its owner locks it again, and it cannot count further
 abbrev pub is_full : ℕ → Mutex → Bool
@@ -85,7 +85,7 @@ is_open_to t mutex = is_free mutex.holder || is_counted t mutex
 abbrev pub take : State → ℕ → ℕ → Mutex → Called
 take s t m mutex = values (begun (set_mutex s m (Some (locked_by t mutex)))) t 0 0
 
--- the caller waits for a mutex, behind the others
+-- the caller waits for a mutex, after the others
 abbrev pub queue : State → ℕ → ℕ → Mutex → Called
 queue s t m mutex = blocked (set_mutex s m (Some (with_waiter t mutex))) t (OfMutex m)
 
@@ -118,7 +118,7 @@ trylock s t c = trylock_of s t c.a0 (s.mutexes c.a0)
 -- its owner has locked a mutex once less; with the last lock it is handed over
 abbrev pub released : State → ℕ → ℕ → Mutex → Outcome
 released s t m mutex =
-    if count_of mutex.holder == 1 then hand (begun s) m mutex (best_waiter s mutex)
+    if count_of mutex.holder == 1 then hand_off (begun s) m mutex (best_waiter s mutex)
     else begun (set_mutex s m (Some (record mutex { holder = Held t (count_of mutex.holder - 1) })))
 
 -- a mutex is unlocked by its owner

@@ -46,7 +46,7 @@ mutex_after called m = called.outcome.state.mutexes m
 abbrev pub on : (State → ℕ → Arguments → Called) → State → ℕ → ℕ → Called
 on row s t m = row s t (with_arguments m 0 0 0)
 
--- a free mutex is taken; a thread waits behind the others, also for a normal one of its own
+-- a free mutex is taken; a thread waits after the others, also for a normal one of its own
 abbrev pub Locks : Type 0
 Locks =
     let taken : Called = on lock five_mutexes 2 4 in
@@ -89,9 +89,9 @@ Trylocks =
     × (mutex_after (on trylock five_mutexes 2 4) 4 ≡ Some (mutex_with Normal (Held 2 1) []))
 
 -- a mutex is handed to the waiter of greatest priority, the earliest of equals, who leaves its list, is answered and
--- is ready behind the others; with no waiter left it is free
-abbrev pub HandsOver : Type 0
-HandsOver =
+-- is ready after the others; with no waiter left it is free
+abbrev pub HandsOff : Type 0
+HandsOff =
     let first : Called = on unlock five_mutexes 1 0 in
     let second : Called = on unlock first.outcome.state 3 0 in
     let third : Called = on unlock second.outcome.state 5 0 in

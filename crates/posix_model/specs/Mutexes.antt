@@ -2,7 +2,7 @@
 use Rattle.std.specs.Prelude.{ℕ, ◌+◌, if◌then◌else◌, List, Option, Some, None}
 use Rattle.thread_base.specs.Holders.{is_held_by, count_of, is_free}
 use Rattle.thread_base.specs.Maps.{put}
-use Rattle.thread_base.specs.Objects.{holder_in, waiters_in, behind}
+use Rattle.thread_base.specs.Objects.{holder_in, waiters_in, appended}
 use Rattle.thread_base.specs.Orders.{without}
 use Rattle.thread_base.specs.Priority.{first_greatest}
 use Rattle.thread_base.specs.declared.mutex.Holder.{Holder}
@@ -35,9 +35,9 @@ set_mutex s m mutex = record s { mutexes = put s.mutexes m mutex }
 abbrev pub locked_by : ℕ → Mutex → Mutex
 locked_by t mutex = record mutex { holder = Held t (count_of mutex.holder + 1) }
 
--- a thread waits for a mutex, behind the others
+-- a thread waits for a mutex, after the others
 abbrev pub with_waiter : ℕ → Mutex → Mutex
-with_waiter t mutex = record mutex { waiters = behind t mutex.waiters }
+with_waiter t mutex = record mutex { waiters = appended t mutex.waiters }
 
 -- the waiter of greatest effective priority, the earliest among equals (POSIX.1 pthread_mutex_unlock)
 abbrev pub best_waiter : State → Mutex → Option ℕ
@@ -61,12 +61,12 @@ give g m mutex t count reply = go_on (record g { state = set_mutex g.state m (So
 
 -- a released mutex goes to a waiter, who leaves its list and has it as often as is due to it, or is free
 -- (POSIX.1 pthread_mutex_unlock)
-abbrev pub hand : Outcome → ℕ → Mutex → Option ℕ → Outcome
-hand g m mutex None = record g { state = set_mutex g.state m (Some (record mutex { holder = Free })) }
-hand g m mutex (Some u) =
+abbrev pub hand_off : Outcome → ℕ → Mutex → Option ℕ → Outcome
+hand_off g m mutex None = record g { state = set_mutex g.state m (Some (record mutex { holder = Free })) }
+hand_off g m mutex (Some u) =
     give g m (record mutex { waiters = without u mutex.waiters }) u (count_due (g.state.threads u).standing) (reply_due (g.state.threads u).standing)
 
--- a thread that waited for something else waits for a mutex from now on, behind the others
+-- a thread that waited for something else waits for a mutex from now on, after the others
 abbrev pub requeue : Outcome → ℕ → Mutex → ℕ → ℕ → RetakeReply → Outcome
 requeue g m mutex t count reply = record g {
   state = set_thread (set_mutex g.state m (Some (with_waiter t mutex))) t (record (g.state.threads t) { standing = Waits (Reacquire m reply count) });

@@ -10,7 +10,7 @@ pub fn chain()
     ensures { examples.Chain }
 {}
 
-/// The threads of a circle of waits have the priority of a thread that waits behind it.
+/// The threads of a circle of waits have the priority of a thread that waits for one of them.
 pub fn circle()
     ensures { examples.Circle }
 {}
@@ -20,7 +20,7 @@ pub fn first_of_equals()
     ensures { examples.FirstOfEquals }
 {}
 
-/// A new thread has the least free number and stands behind the others; its creator keeps its place.
+/// A new thread has the least free number and stands after the others; its creator keeps its place.
 pub fn create()
     ensures { examples.Create }
 {}
@@ -45,7 +45,7 @@ pub fn detaches()
     ensures { examples.Detaches }
 {}
 
-/// A yield goes behind the others.
+/// A yield goes after the others.
 pub fn yields()
     ensures { examples.Yields }
 {}
@@ -70,7 +70,7 @@ pub fn trace_lines()
     ensures { examples.Lines }
 {}
 
-/// A free mutex is taken, and behind another owner a thread waits, behind those that came before.
+/// A free mutex is taken; for one that another owns a thread waits, after those that came before.
 pub fn locks()
     ensures { mutexes.Locks }
 {}
@@ -91,8 +91,8 @@ pub fn trylocks()
 {}
 
 /// An unlocked mutex goes to the waiter of greatest priority, the earliest of equals.
-pub fn hands_over()
-    ensures { mutexes.HandsOver }
+pub fn hands_off()
+    ensures { mutexes.HandsOff }
 {}
 
 /// A mutex of each kind is made; which refusal comes first.
@@ -110,7 +110,7 @@ pub fn orphans()
     ensures { mutexes.Orphans }
 {}
 
-/// Who waits for a condition lets its mutex go at once, and stands behind the other waiters.
+/// Who waits for a condition lets its mutex go at once, and stands after the other waiters.
 pub fn condition_waits()
     ensures { conditions.ConditionWaits }
 {}

@@ -3,7 +3,7 @@
 
 ghost use Rattle.std.specs.Prelude.{◌≡◌};
 ghost use Rattle.posix_model.specs.Reports.{nothing_told};
-ghost use Rattle.posix_model.specs.Laws.{OneRun, Progress, Completion, Goodness, PriorityIsInherited, BestComesFirst, EveryoneIsWoken};
+ghost use Rattle.posix_model.specs.Laws.{OneRun, Progress, Completion, Goodness, InstructionsKeepGood, DeliveriesKeepGood, PriorityIsInherited, BestComesFirst, EveryoneIsWoken};
 ghost use Rattle.posix_model.specs.State.{EndOf, aim, is_target};
 ghost use Rattle.thread_base.specs.Numbers.{code_of};
 
@@ -227,6 +227,19 @@ pub fn progress()
 #[tactic(auto, using(crate::proofs::GoodMoves::goodness))]
 pub fn goodness()
     ensures { Goodness }
+{}
+
+/// The law of good instructions: whatever the chosen thread does in one instruction keeps a good state good, a
+/// plain one, a call of any number with any arguments, a special return and a fault.
+#[tactic(auto, using(crate::proofs::GoodMoves::instructions_keep_good))]
+pub fn instructions_keep_good()
+    ensures { InstructionsKeepGood }
+{}
+
+/// The law of good deliveries: the next delivery keeps a good state good.
+#[tactic(auto, using(crate::proofs::GoodMoves::deliveries_keep_good))]
+pub fn deliveries_keep_good()
+    ensures { DeliveriesKeepGood }
 {}
 
 /// The law of inherited priority: a thread's effective priority is the greatest own priority over the thread

@@ -3,7 +3,7 @@ use Rattle.std.proofs.Common.{◌≡◌, ℕ, ◌≤◌, Bool, true, false, eqb,
 use Rattle.std.specs.Prelude.{bit_and, filter}
 use Rattle.std.proofs.lemmas.Bool.{eqb-true, eq-eqb, cases_Bool}
 use Rattle.std.proofs.lemmas.Nat.{and_assoc, and_comm}
-use Rattle.rv_table.specs.Table.{Pattern, Row, rows, mask_of, value_of, matches}
+use Rattle.rv_table.specs.Table.{OneRow, Pattern, Row, rows, mask_of, value_of, matches}
 use Rattle.rv_table.proofs.Rows.{both_true}
 
 -- two patterns differ in a bit that both fix
@@ -15,7 +15,7 @@ abbrev is_apart_from : Pattern → List Row → Bool
 is_apart_from p [] = true
 is_apart_from p (r ∷ rs) = is_apart p r.pattern && is_apart_from p rs
 
--- each row is apart from those behind it
+-- each row is apart from those after it
 abbrev are_apart : List Row → Bool
 are_apart [] = true
 are_apart (r ∷ rs) = is_apart_from r.pattern rs && are_apart rs
@@ -57,5 +57,5 @@ at_most_one w (r ∷ rs) apart =
       | inr has_not ↦ rw has_not (at_most_one w rs parts.1)
     ]
 
-pub one_row : (w : ℕ) → length (filter (λ r. matches r.pattern w) rows) ≤ 1
+pub one_row : OneRow
 one_row w = at_most_one w rows refl

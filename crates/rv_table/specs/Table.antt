@@ -1,6 +1,6 @@
 -- The table of instructions: RV32I and the M extension of the RISC-V manual.
 -- A word is compared as a whole with each row, under the row's mask.
-use Rattle.std.specs.Prelude.{ℕ, ◌+◌, ◌*◌, ◌/◌, ◌%◌, ◌^◌, ◌-◌, ◌<◌, ◌==◌, ◌∷◌, List, [], Option, Some, None, Bool, bit_and, if◌then◌else◌, nat_lt}
+use Rattle.std.specs.Prelude.{ℕ, ◌+◌, ◌*◌, ◌/◌, ◌%◌, ◌^◌, ◌-◌, ◌<◌, ◌≤◌, ◌==◌, ◌∷◌, List, [], filter, length, Option, Some, None, Bool, bit_and, if◌then◌else◌, nat_lt}
 use Rattle.rv_table.specs.declared.Instr.{Instr}
 use Rattle.rv_table.specs.Names.{LUI, AUIPC, JAL, JALR, BEQ, BNE, BLT, BGE, BLTU, BGEU, LB, LH, LW, LBU, LHU, SB, SH, SW, ADDI, SLTI, SLTIU, XORI, ORI, ANDI, SLLI, SRLI, SRAI, ADD, SLL, SLT, SLTU, XOR, SRL, OR, AND, SUB, SRA, MUL, MULH, MULHSU, MULHU, DIV, DIVU, REM, REMU, FENCE, ECALL, EBREAK}
 
@@ -102,9 +102,12 @@ row_among [] word = None
 row_among (r ∷ rs) word = if matches r.pattern word then Some (r.number, r.format) else row_among rs word
 
 -- number and format of the row of a word, which is illegal where there is none
--- (no word matches two rows, as proofs/OneRow shows)
 unfoldable pub row_of : ℕ → Option (ℕ × Format)
 row_of word = row_among rows word
+
+-- of the table's rows a word matches one at most (RISC-V manual: no two instructions have one encoding)
+abbrev pub OneRow : Type 0
+OneRow = (word : ℕ) → length (filter (λ r. matches r.pattern word) rows) ≤ 1
 
 -- so many bits of a word, from bit low on
 abbrev pub bits_at : ℕ → ℕ → ℕ → ℕ

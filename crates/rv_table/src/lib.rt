@@ -6,7 +6,7 @@ pub mod row;
 
 ghost use Rattle.std.specs.Prelude.{◌≡◌, ◌<◌, ◌^◌, IfSome};
 ghost use Rattle.rv_table.specs.Fields.{row_by_fields, with_format};
-ghost use Rattle.rv_table.specs.Table.{NamesRegisters, decoded, immediate_of, sign_extended, R, I, S, B, U, J, Shift};
+ghost use Rattle.rv_table.specs.Table.{NamesRegisters, OneRow, decoded, immediate_of, sign_extended, R, I, S, B, U, J, Shift};
 
 /// A decoded instruction of RV32IM.
 ///
@@ -63,6 +63,12 @@ pub fn decode(word: u32) -> Option<Instr>
         imm,
     })
 }
+
+/// The law of one row: a word matches one row of the table at most, so that their order does not matter.
+#[tactic(auto, using(crate::proofs::OneRow::one_row))]
+pub fn one_row()
+    ensures { OneRow }
+{}
 
 /// The rows of opcode 0x63, the conditional branches.
 #[tactic(auto, unfolding(crate::specs::Fields::row_by_fields))]
