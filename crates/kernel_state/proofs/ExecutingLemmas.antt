@@ -66,9 +66,9 @@ module _ {R : Type 0} (order : R → List ℕ) (k : Tables R) (regs : Regs) (mem
   map u = context_of (saved_of k.frames u)
 
   -- what the instruction sees is what the machine's thread has
-  seen : effect_at (view order k) k.placed ≡ effect k.regs.pc k.regs.x k.memory
+  shown : effect_at (view order k) k.placed ≡ effect k.regs.pc k.regs.x k.memory
   unfolding view
-  seen =
+  shown =
       let mine = there_registers (rows k.threads k.placed) (activities_of k.activities k.placed) (contexts_of k k.placed) there
       ∙ put_same (λ u. context_of (saved_of k.frames u)) k.placed (registers_of k.regs) in
       λ i. effect (mine i).pc (mine i).x k.memory
@@ -115,4 +115,4 @@ module _ {R : Type 0} (order : R → List ℕ) (k : Tables R) (regs : Regs) (mem
   pub executed : (event : Event) → HasEffect (effect k.regs.pc k.regs.x k.memory) event k.regs.pc k.regs.x k.memory regs.pc regs.x memory
       → HasExecuted (view order k) k.placed event (view order (record k { regs = regs; memory = memory }))
   unfolding after
-  executed event h = by_effect (effect k.regs.pc k.regs.x k.memory) event seen h
+  executed event h = by_effect (effect k.regs.pc k.regs.x k.memory) event shown h

@@ -3,7 +3,9 @@ pub mod ConditionLemmas
 pub mod ViewLemmas
 pub mod CurrentLemmas
 pub mod StartLemmas
+pub mod SmallLemmas
 pub mod NoteLemmas
+pub mod KernelLemmas
 pub mod ExecutingLemmas
 pub mod PendingLemmas
 pub mod WakingLemmas

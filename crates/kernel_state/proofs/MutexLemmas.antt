@@ -7,7 +7,7 @@ use Rattle.thread_base.specs.Maps.{put, numbered}
 use Rattle.thread_base.specs.Objects.{holder_in, waiters_in}
 use Rattle.thread_base.specs.declared.mutex.Holder.TheVariants.{Orphan}
 use Rattle.thread_base.proofs.MapLemmas.{put_same, put_other, numbered_set}
-use Rattle.mutex_table.specs.MutexMap.{look_of}
+use Rattle.mutex_table.specs.MutexMap.{state_of}
 use Rattle.posix_model.specs.State.{State, Mutex}
 use Rattle.posix_model.specs.Changes.{Outcome}
 use Rattle.posix_model.specs.Mutexes.{orphan_in, orphaned, give, requeue, retake_of, retake}
@@ -15,9 +15,9 @@ use Rattle.posix_model.specs.declared.RetakeReply.{RetakeReply}
 use Rattle.kernel_state.specs.View.{mutex_by}
 use Rattle.kernel_state.specs.Changing.{HasNoMutex}
 
-pub seen_by : (o : Option Mutex) → o ≡ mutex_by (look_of o) (waiters_in o)
-seen_by None = refl
-seen_by (Some mutex) = refl
+pub mutex_by_parts : (o : Option Mutex) → o ≡ mutex_by (state_of o) (waiters_in o)
+mutex_by_parts None = refl
+mutex_by_parts (Some mutex) = refl
 
 unheld : (t : ℕ) (o : Option Mutex) → is_held_by (holder_in o) t ≡ false → o ≡ orphan_in t o
 unheld t None h = refl

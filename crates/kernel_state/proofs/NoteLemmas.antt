@@ -1,11 +1,12 @@
 -- Small changes that were noted on an idle kernel, and those that are left.
-use Rattle.std.proofs.Common.{◌≡◌, ◌∙◌, ap, sym, refl, subst, inl, inr, ℕ, zero, suc, ◌+◌, ◌<◌, ◌≤◌, true, false, Some, List, [], ◌∷◌, ◌++◌, drop, get_or, length, length-append, arith, leb}
+use Rattle.std.proofs.Common.{◌≡◌, None, is_some, ◌∙◌, ap, sym, refl, subst, inl, inr, ℕ, zero, suc, ◌+◌, ◌<◌, ◌≤◌, true, false, Some, List, [], ◌∷◌, ◌++◌, drop, get_or, length, length-append, arith, leb}
 use Rattle.std.proofs.Math.Seq.{drop-cons}
 use Rattle.std.proofs.lemmas.Bool.{cases_lt, le-leb, lt-leb}
 use Rattle.std.proofs.lemmas.List.{drop_all}
 use Rattle.thread_base.specs.Orders.{is_nil}
 use Rattle.posix_model.specs.Changes.{Outcome, begun}
 use Rattle.posix_model.specs.State.{State}
+use Rattle.posix_model.specs.Good.{IsGood}
 use Rattle.posix_model.specs.Deliveries.{next_delivery, delivered, deliver, set_pending}
 use Rattle.posix_model.specs.Reports.{nothing_told}
 use Rattle.posix_model.specs.declared.Head.TheVariants.{Deliver as DeliverHead}
@@ -15,15 +16,17 @@ use Rattle.kernel_state.specs.Changing.{Can, change_by, owed, AllCan}
 use Rattle.kernel_state.specs.declared.change.Change.{Change}
 use Rattle.kernel_state.specs.declared.change.Change.TheVariants.{Signal as OfSignal, Over}
 use Rattle.kernel_state.specs.declared.change.SignalChange.TheVariants.{Take}
-use Rattle.kernel_state.specs.declared.kernel.Kernel.{Kernel}
+use Rattle.kernel_state.specs.Kernels.{KernelState}
 use Rattle.kernel_state.specs.declared.rest.Rest.{Rest}
-use Rattle.kernel_state.specs.Begun.{CanBegin, HasNoted, HasNotedSome, NotesMore, IsBegun}
-use Rattle.kernel_state.specs.Moves.{left, IsIdle, owed_by, told_by}
+use Rattle.kernel_state.specs.declared.kernel.MainLine.{MainLine}
+use Rattle.kernel_state.specs.declared.tables.Tables.{Tables}
+use Rattle.kernel_state.specs.Begun.{HasNoted, HasNotedSome, NotesMore, CanStart, IsBegun}
+use Rattle.kernel_state.specs.Kernels.{remaining, IsEmpty, IsIdle, with_main, owed_by}
 use Rattle.kernel_state.proofs.PendingLemmas.{pends_once}
 
 -- nothing is left of no move
-pub idle_left : (rest : Rest) → IsIdle rest → left rest ≡ []
-idle_left rest idle = λ i. drop (idle.first i) (idle.none i)
+pub idle_remaining : (rest : Rest) → IsEmpty rest → remaining rest ≡ []
+idle_remaining rest idle = λ i. drop (idle.first i) (idle.none i)
 
 -- some more stand after those that are left
 some_more : (changes : List Change) (change : Change) → is_nil (changes ++ change ∷ []) ≡ false
@@ -41,47 +44,49 @@ more_can (first ∷ changes) change g all can = (all.0, more_can changes change 
 
 module _ {R : Type 0} (order : R → List ℕ) where
   -- nothing was noted yet
-  pub noted_none : (k : Kernel R) → IsIdle k.rest → k.tables.report ≡ nothing_told → HasNoted order k k (begun (view order k.tables))
+  pub noted_none : (k : KernelState R) → IsIdle k → k.tables.report ≡ nothing_told → HasNoted order k k (begun (view order k.tables))
   unfolding outcome
   noted_none k idle untold = record {
-    owed = ap (owed (outcome order k.tables)) (idle_left k.rest idle) ∙ (λ i. record { state = view order k.tables; report = untold i });
-    can = subst (λ xs. AllCan (outcome order k.tables) xs) (sym (idle_left k.rest idle)) tt;
-    first = idle.first;
-    few = (let e = ap (length {A = Change}) idle.none in omega (arith, e));
+    owed = ap (owed (outcome order k.tables)) (idle_remaining k.rest idle.rest) ∙ (λ i. record { state = view order k.tables; report = untold i });
+    can = subst (λ xs. AllCan (outcome order k.tables) xs) (sym (idle_remaining k.rest idle.rest)) tt;
+    first = idle.rest.first;
+    few = (let e = ap (length {A = Change}) idle.rest.none in omega (arith, e));
+    main = idle.main;
     others = refl;
   }
 
-  pub tables_stay : (first k : Kernel R) (g : Outcome) → HasNoted order first k g → k.tables ≡ first.tables
-  tables_stay first k g noted = ap (λ (x : Kernel R). x.tables) noted.others
+  pub tables_stay : (first k : KernelState R) (g : Outcome) → HasNoted order first k g → k.tables ≡ first.tables
+  tables_stay first k g noted = ap (λ (x : KernelState R). x.tables) noted.others
 
-  pub notes_more : (k q : Kernel R) (change : Change) → length k.rest.noted.items < 512 → q.rest.noted.items ≡ k.rest.noted.items ++ change ∷ [] → q.rest.next ≡ k.rest.next
+  pub notes_more : (k q : KernelState R) (change : Change) → length k.rest.noted.items < 512 → q.rest.noted.items ≡ k.rest.noted.items ++ change ∷ [] → q.rest.next ≡ k.rest.next
       → q ≡ record k { rest = q.rest } → NotesMore order k q change
   notes_more k q change room more next others first g noted can =
       let start = outcome order first.tables in
-      let was : left k.rest ≡ k.rest.noted.items = ap (λ n. drop n k.rest.noted.items) noted.first in
-      let all : left q.rest ≡ left k.rest ++ change ∷ [] =
+      let was : remaining k.rest ≡ k.rest.noted.items = ap (λ n. drop n k.rest.noted.items) noted.first in
+      let all : remaining q.rest ≡ remaining k.rest ++ change ∷ [] =
       ap (λ n. drop n q.rest.noted.items) (next ∙ noted.first) ∙ more ∙ ap (λ xs. xs ++ change ∷ []) (sym was) in
       record {
-        begun = ap is_nil all ∙ some_more (left k.rest) change;
+        begun = ap is_nil all ∙ some_more (remaining k.rest) change;
         so_far = record {
-          owed = ap (owed start) all ∙ more_owed (left k.rest) change start ∙ ap (change_by change) noted.owed;
-          can = subst (λ xs. AllCan start xs) (sym all) (more_can (left k.rest) change start noted.can (subst (λ (x : Outcome). Can change x) (sym noted.owed) can));
+          owed = ap (owed start) all ∙ more_owed (remaining k.rest) change start ∙ ap (change_by change) noted.owed;
+          can = subst (λ xs. AllCan start xs) (sym all) (more_can (remaining k.rest) change start noted.can (subst (λ (x : Outcome). Can change x) (sym noted.owed) can));
           first = next ∙ noted.first;
           few = (let e = ap (length {A = Change}) more ∙ length-append k.rest.noted.items (change ∷ []) in omega (arith, e, room));
-          others = others ∙ ap (λ (x : Kernel _). record x { rest = q.rest }) noted.others;
+          main = noted.main;
+          others = others ∙ ap (λ (x : KernelState _). record x { rest = q.rest }) noted.others;
         };
       }
 
   -- two and three more
-  module _ (first k : Kernel R) (g : Outcome) (noted : HasNoted order first k g) (q : Kernel R) (a : Change) (more : NotesMore order k q a) (can : Can a g) where
+  module _ (first k : KernelState R) (g : Outcome) (noted : HasNoted order first k g) (q : KernelState R) (a : Change) (more : NotesMore order k q a) (can : Can a g) where
     pub noted_one : HasNotedSome order first q (change_by a g)
     noted_one = more first g noted can
 
-    module _ (r : Kernel R) (b : Change) (more2 : NotesMore order q r b) (can2 : Can b (change_by a g)) where
+    module _ (r : KernelState R) (b : Change) (more2 : NotesMore order q r b) (can2 : Can b (change_by a g)) where
       pub noted_two : HasNotedSome order first r (change_by b (change_by a g))
       noted_two = more2 first (change_by a g) noted_one.so_far can2
 
-      pub noted_three : (p : Kernel R) (c : Change) → NotesMore order r p c → Can c (change_by b (change_by a g))
+      pub noted_three : (p : KernelState R) (c : Change) → NotesMore order r p c → Can c (change_by b (change_by a g))
           → HasNotedSome order first p (change_by c (change_by b (change_by a g)))
       noted_three p c more3 can3 = more3 first (change_by b (change_by a g)) noted_two.so_far can3
 
@@ -90,8 +95,9 @@ nil_is : {A : Type 0} (xs : List A) → is_nil xs ≡ true → xs ≡ []
 nil_is [] h = refl
 nil_is (x ∷ xs) h = let e : false ≡ true = h in absurd (cc)
 
-pub all_made : {R : Type 0} (order : R → List ℕ) (k : Kernel R) → is_nil (left k.rest) ≡ true → (left k.rest ≡ []) × (outcome order k.tables ≡ owed_by order k)
-all_made order k h = let nothing = nil_is (left k.rest) h in (nothing, ap (owed (outcome order k.tables)) (sym nothing))
+-- nothing more is owed than what the tables show
+pub all_made : {R : Type 0} (order : R → List ℕ) (tables : Tables R) (rest : Rest) → is_nil (remaining rest) ≡ true → (remaining rest ≡ []) × (outcome order tables ≡ owed (outcome order tables) (remaining rest))
+all_made order tables rest h = let nothing = nil_is (remaining rest) h in (nothing, ap (owed (outcome order tables)) (sym nothing))
 
 -- changes are left where there are more than are made
 pub inside : (xs : List Change) (n : ℕ) → n < length xs → is_nil (drop n xs) ≡ false
@@ -121,25 +127,45 @@ next_first xs n d x is h =
 
 -- the changes of a delivery, with its main line, are the next delivery
 pub told_delivery : (s : State) (t sig : ℕ) → next_delivery s ≡ Some (record { thread = t; signal = sig }) → s.pending ≡ one_pending t sig
-    → told_by t (DeliverHead t sig 1) (change_by (Over (Killed sig)) (change_by (OfSignal t sig Take) (begun s))) ≡ deliver s
+    → with_main (Some (record { thread = t; head = DeliverHead t sig 1 })) (change_by (Over (Killed sig)) (change_by (OfSignal t sig Take) (begun s))) ≡ deliver s
 told_delivery s t sig next pending =
     let after : State = record (set_pending s t sig 0) { over = Some (Killed sig) } in
     sym (
     ap (delivered s) next
     ∙ ap (λ (n : ℕ). record { state = after; report = record nothing_told { tid = t; head = DeliverHead t sig n } }) (pends_once s.pending t sig pending))
 
--- a move was begun: its changes were noted, then its thread and main line
-pub begun_by : {R : Type 0} (order : R → List ℕ) (k q r : Kernel R) (g : Outcome) (tid : ℕ) (head : _) → HasNotedSome order k q g → r ≡ record q { tid = tid; head = head }
-    → IsBegun order k r (told_by tid head g)
-begun_by order k q r g tid head noted told =
-    let rest = ap (λ (x : Kernel _). x.rest) told in
-    let tables = ap (λ (x : Kernel _). x.tables) told ∙ tables_stay order k q g noted.so_far in
-    record {
-      begun = ap (λ (x : Rest). is_nil (left x)) rest ∙ noted.begun;
-      few = (let e = ap (λ (x : Rest). length x.noted.items) rest in let few = noted.so_far.few in omega (arith, e, few));
-      owed = (λ i. told_by (told i).tid (told i).head (owed (outcome order (tables i)) (left (rest i)))) ∙ ap (told_by tid head) noted.so_far.owed;
-      can = subst (λ (x : Rest). AllCan (outcome order r.tables) (left x)) (sym rest)
-          (subst (λ (x : _). AllCan (outcome order x) (left q.rest)) (sym tables) noted.so_far.can);
-      tables = tables;
-      settings = ap (λ (x : Kernel _). x.settings) told ∙ ap (λ (x : Kernel _). x.settings) noted.so_far.others;
-    }
+-- small changes that were noted can be made on the tables, and come to the same
+module _ {R : Type 0} (order : R → List ℕ) (k q : KernelState R) (g : Outcome) (noted : HasNotedSome order k q g) where
+  same_tables : k.tables ≡ q.tables
+  same_tables = sym (tables_stay order k q g noted.so_far)
+
+  noted_can : AllCan (outcome order q.tables) (remaining q.rest)
+  noted_can = subst (λ (x : Tables _). AllCan (outcome order x) (remaining q.rest)) same_tables noted.so_far.can
+
+  noted_owed : owed (outcome order q.tables) (remaining q.rest) ≡ g
+  noted_owed = subst (λ (x : Tables _). owed (outcome order x) (remaining q.rest) ≡ g) same_tables noted.so_far.owed
+
+  -- their move can begin, where the state is good to which they lead
+  pub can_start : IsGood g.state → CanStart order q
+  can_start good = record {
+    idle = ap (λ (x : KernelState _). x.main) noted.so_far.others ∙ noted.so_far.main;
+    some = noted.begun;
+    can = noted_can;
+    good = subst (λ (x : Outcome). IsGood x.state) (sym noted_owed) good;
+  }
+
+  -- a move was begun: its changes were noted, then its thread and main line
+  pub begun_by : (r : KernelState R) (main : MainLine) → r ≡ record q { main = Some main } → IsBegun order k r (with_main (Some main) g)
+  begun_by r main told =
+      let rest = ap (λ (x : KernelState _). x.rest) told in
+      let tables = ap (λ (x : KernelState _). x.tables) told in
+      record {
+        main = ap (λ (x : KernelState _). is_some x.main) told;
+        some = ap (λ (x : Rest). is_nil (remaining x)) rest ∙ noted.begun;
+        few = (let e = ap (λ (x : Rest). length x.noted.items) rest in let few = noted.so_far.few in omega (arith, e, few));
+        owed = (λ i. with_main (told i).main (owed (outcome order (tables i)) (remaining (rest i)))) ∙ ap (with_main (Some main)) noted_owed;
+        can = subst (λ (x : Rest). AllCan (outcome order r.tables) (remaining x)) (sym rest)
+            (subst (λ (x : Tables _). AllCan (outcome order x) (remaining q.rest)) (sym tables) noted_can);
+        tables = tables ∙ sym same_tables;
+        settings = ap (λ (x : KernelState _). x.settings) told ∙ ap (λ (x : KernelState _). x.settings) noted.so_far.others;
+      }

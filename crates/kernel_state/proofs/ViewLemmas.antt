@@ -27,7 +27,7 @@ use Rattle.kernel_state.specs.declared.tables.Tables.{Tables}
 use Rattle.kernel_state.specs.declared.activity.Activity.{Activity}
 use Rattle.posix_model.specs.declared.Wait.{Wait}
 
--- a thread's row, life and context change
+-- a thread's row, activity and context change
 pub threads_put : (rows : ℕ → Option Row) (activities : ℕ → Activity) (contexts : ℕ → Registers) (t : ℕ) (row : Row) (activity : Activity) (regs : Registers)
     → threads_of (put rows t (Some row)) (put activities t activity) (put contexts t regs) ≡ put (threads_of rows activities contexts) t (thread_by row activity regs)
 threads_put rows activities contexts t row activity regs =

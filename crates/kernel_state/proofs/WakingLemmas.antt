@@ -10,7 +10,7 @@ use Rattle.thread_base.proofs.MapLemmas.{put_same, put-put}
 use Rattle.posix_model.specs.State.{State, Thread, Mutex, Standing, Absent, Ready, Waits, Ended, is_ready, is_live, wants, waits_on, mutex_with, wait_of, count_due}
 use Rattle.posix_model.specs.Good.{IsGood}
 use Rattle.posix_model.specs.Changes.{Outcome, go_on}
-use Rattle.posix_model.specs.Mutexes.{set_mutex, retake, reply_due, hand}
+use Rattle.posix_model.specs.Mutexes.{set_mutex, retake, reply_due, hand_off}
 use Rattle.posix_model.specs.Conditions.{leave, wake_from, wake}
 use Rattle.posix_model.specs.declared.RetakeReply.{RetakeReply}
 use Rattle.posix_model.specs.declared.Wait.TheVariants.{Join, Mutex as OfMutexWait, Cond, Reacquire}
@@ -25,7 +25,7 @@ use Rattle.kernel_state.proofs.MutexLemmas.{retake_is}
 
 -- a mutex that nobody waits for is free
 pub freed_by : (s : State) (g : Outcome) (m : ℕ) (mutex : Mutex) → s.mutexes m ≡ Some mutex → LeavesMutex s g.state m
-    → Can (OfMutex m (Hold Free)) g × (change_by (OfMutex m (Hold Free)) g ≡ hand g m mutex None)
+    → Can (OfMutex m (Hold Free)) g × (change_by (OfMutex m (Hold Free)) g ≡ hand_off g m mutex None)
 freed_by s g m mutex there leaves = (
   ap is_some (leaves.mutex ∙ there),
   ap (λ o. record g { state = set_mutex g.state m (with_holder Free o) }) (leaves.mutex ∙ there),
@@ -64,7 +64,7 @@ module _ (s : State) (g : Outcome) (m u : ℕ) (mutex : Mutex) (good : IsGood s)
   }
 
   pub handed_over : (count : ℕ) → count ≡ count_due (s.threads u).standing → (reply : RetakeReply) → reply ≡ reply_due (s.threads u).standing
-      → change_by (Retake u m count reply) (change_by (OfMutex m (DropWaiter u)) (change_by (OfMutex m (Hold Free)) g)) ≡ hand g m mutex (Some u)
+      → change_by (Retake u m count reply) (change_by (OfMutex m (DropWaiter u)) (change_by (OfMutex m (Hold Free)) g)) ≡ hand_off g m mutex (Some u)
   handed_over count often reply due =
       let thread = leaves.threads u waits in
       let held : ℕ → Option Mutex = λ n. Some (record mutex { holder = Held u n; waiters = without u mutex.waiters }) in

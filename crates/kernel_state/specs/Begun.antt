@@ -1,20 +1,30 @@
 -- What a move may begin on, and that its small changes were noted.
-use Rattle.std.specs.Prelude.{ℕ, ◌≡◌, ◌≤◌, slice_index, false, List, length}
+use Rattle.std.specs.Prelude.{ℕ, ◌≡◌, ◌≤◌, slice_index, false, List, length, Some, None}
 use Rattle.thread_base.specs.Orders.{is_nil}
 use Rattle.posix_model.specs.State.{none_pending}
 use Rattle.posix_model.specs.Good.{IsGood}
 use Rattle.posix_model.specs.Changes.{Outcome}
+use Rattle.posix_model.specs.Scheduling.{chosen}
 use Rattle.posix_model.specs.declared.Arguments.{Arguments}
 use Rattle.posix_model.specs.Reports.{nothing_told}
 use Rattle.kernel_state.specs.View.{view, outcome}
 use Rattle.kernel_state.specs.Changing.{Can, change_by, IsListed, owed, AllCan}
 use Rattle.kernel_state.specs.declared.change.Change.{Change}
-use Rattle.kernel_state.specs.Moves.{left, IsIdle, owed_by, told_by}
-use Rattle.kernel_state.specs.declared.kernel.Kernel.{Kernel}
+use Rattle.kernel_state.specs.Kernels.{KernelState, remaining, IsIdle, owed_by}
+use Rattle.kernel_state.specs.Moves.{InProgress}
 
--- no move is in progress and nothing is told, the state is good, no fault waits, and the thread is ready
-pub record CanBegin {R : Type 0} (order : R → List ℕ) (k : Kernel R) (t : ℕ) : Type 0 where
-  pub idle : IsIdle k.rest
+-- an instruction of the thread may begin a move: none is in progress, the process is not over, nothing pends, and the
+-- thread is the chosen one
+pub record CanBegin {R : Type 0} (order : R → List ℕ) (k : KernelState R) (t : ℕ) : Type 0 where
+  pub idle : IsIdle k
+  pub going_on : (view order k.tables).over ≡ None
+  pub calm : (view order k.tables).pending ≡ none_pending
+  pub first : chosen (view order k.tables) ≡ Some t
+
+-- what small changes are noted on: no move is in progress and nothing is told, the state is good, nothing pends, and
+-- the thread is ready
+pub record CanNote {R : Type 0} (order : R → List ℕ) (k : KernelState R) (t : ℕ) : Type 0 where
+  pub idle : IsIdle k
   pub untold : k.tables.report ≡ nothing_told
   pub good : IsGood (view order k.tables)
   pub listed : IsListed (view order k.tables) t
@@ -22,30 +32,40 @@ pub record CanBegin {R : Type 0} (order : R → List ℕ) (k : Kernel R) (t : �
 
 -- small changes were noted, if any, and nothing else: together they make so much of a move, each can be made in
 -- its turn, none is made yet, and they are 512 at most
-pub record HasNoted {R : Type 0} (order : R → List ℕ) (k q : Kernel R) (g : Outcome) : Type 0 where
-  pub owed : owed (outcome order k.tables) (left q.rest) ≡ g
-  pub can : AllCan (outcome order k.tables) (left q.rest)
+pub record HasNoted {R : Type 0} (order : R → List ℕ) (k q : KernelState R) (g : Outcome) : Type 0 where
+  pub owed : owed (outcome order k.tables) (remaining q.rest) ≡ g
+  pub can : AllCan (outcome order k.tables) (remaining q.rest)
   pub first : q.rest.next ≡ 0
   pub few : length q.rest.noted.items ≤ 512
+  pub main : k.main ≡ None
   pub others : q ≡ record k { rest = q.rest }
 
 -- the same, and one small change at least was noted
-pub record HasNotedSome {R : Type 0} (order : R → List ℕ) (k q : Kernel R) (g : Outcome) : Type 0 where
-  pub begun : is_nil (left q.rest) ≡ false
+pub record HasNotedSome {R : Type 0} (order : R → List ℕ) (k q : KernelState R) (g : Outcome) : Type 0 where
+  pub begun : is_nil (remaining q.rest) ≡ false
   pub so_far : HasNoted order k q g
 
 -- one small change was noted after those that were noted before
-abbrev pub NotesMore : {R : Type 0} → (R → List ℕ) → Kernel R → Kernel R → Change → Type 0
-NotesMore order k q change = (first : Kernel _) (g : Outcome) → HasNoted order first k g → Can change g → HasNotedSome order first q (change_by change g)
+abbrev pub NotesMore : {R : Type 0} → (R → List ℕ) → KernelState R → KernelState R → Change → Type 0
+NotesMore order k q change = (first : KernelState _) (g : Outcome) → HasNoted order first k g → Can change g → HasNotedSome order first q (change_by change g)
+
+-- a move can begin of the small changes that were noted: there are some, each can be made in its turn, and the state
+-- is good when all are made
+pub record CanStart {R : Type 0} (order : R → List ℕ) (k : KernelState R) : Type 0 where
+  pub idle : k.main ≡ None
+  pub some : is_nil (remaining k.rest) ≡ false
+  pub can : AllCan (outcome order k.tables) (remaining k.rest)
+  pub good : IsGood (owed (outcome order k.tables) (remaining k.rest)).state
 
 -- a move of one small change at least and 512 at most was begun and nothing else: what it owes the machine, with its
 -- thread and its main line, is one change of the definitions, each of its small changes can be made in its turn, and
 -- the tables stay
-pub record IsBegun {R : Type 0} (order : R → List ℕ) (k q : Kernel R) (g : Outcome) : Type 0 where
-  pub begun : is_nil (left q.rest) ≡ false
+pub record IsBegun {R : Type 0} (order : R → List ℕ) (k q : KernelState R) (g : Outcome) : Type 0 where
+  pub main : InProgress q
+  pub some : is_nil (remaining q.rest) ≡ false
   pub few : length q.rest.noted.items ≤ 512
-  pub owed : told_by q.tid q.head (owed_by order q) ≡ g
-  pub can : AllCan (outcome order q.tables) (left q.rest)
+  pub owed : owed_by order q ≡ g
+  pub can : AllCan (outcome order q.tables) (remaining q.rest)
   pub tables : q.tables ≡ k.tables
   pub settings : q.settings ≡ k.settings
 

@@ -2,7 +2,7 @@
 use Rattle.std.specs.Prelude.{ℕ, ◌+◌, ◌≡◌, ◌<◌, Bool, true, false, if◌then◌else◌, List, [], ◌∷◌, Option, Some, None, IsSome, IsNone, IsTrue, length}
 use Rattle.std.specs.Option.{ForSome}
 use Rattle.thread_base.specs.Holders.{is_held_by, is_free}
-use Rattle.thread_base.specs.Objects.{free_mutex, new_condition, holder_in, waiters_in, cond_mutex, cond_waiters, with_holder, with_waiters, behind, entered, without_waiter}
+use Rattle.thread_base.specs.Objects.{free_mutex, new_condition, holder_in, waiters_in, cond_mutex, cond_waiters, with_holder, with_waiters, appended, entered, without_waiter}
 use Rattle.thread_base.specs.Orders.{is_in, without}
 use Rattle.rv_exec.specs.Window.{is_inside}
 use Rattle.posix_model.specs.State.{State, Thread, Mutex, Condition, Normal, Ready, no_thread, none_pending, is_ready, is_live}
@@ -58,7 +58,7 @@ abbrev pub mutex_change_by : MutexChange → Option Mutex → Option Mutex
 mutex_change_by (MakeMutex kind protocol) mutex = Some (free_mutex kind protocol)
 mutex_change_by DestroyMutex mutex = None
 mutex_change_by (Hold holder) mutex = with_holder holder mutex
-mutex_change_by (AddWaiter t) mutex = with_waiters (behind t) mutex
+mutex_change_by (AddWaiter t) mutex = with_waiters (appended t) mutex
 mutex_change_by (DropWaiter t) mutex = with_waiters (without t) mutex
 
 -- what a change of one condition makes of it (POSIX.1 condition variables)
@@ -131,7 +131,8 @@ abbrev pub CanSignal : SignalChange → ℕ → ℕ → (ℕ → ℕ → ℕ) �
 CanSignal Pend t signal pending = pending ≡ none_pending
 CanSignal Take t signal pending = pending ≡ one_pending t signal
 
--- a thread may take a mutex back: it goes on, is in no list of waiters where it has to wait, and the mutex is there
+-- a thread may take a mutex back: it has not ended and is not ready, the mutex is there, and where it is not free the
+-- thread waits for no mutex
 pub record CanRetake (t m : ℕ) (s : State) : Type 0 where
   pub there : IsSome (s.mutexes m)
   pub away : is_in t s.ready ≡ false

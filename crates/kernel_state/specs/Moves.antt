@@ -1,58 +1,47 @@
--- A move in progress: what it still owes the machine, and its report.
-use Rattle.std.specs.Prelude.{ℕ, ◌≡◌, ◌+◌, false, List, [], ◌∷◌, drop, length}
+-- One step of the move in progress.
+use Rattle.std.specs.Prelude.{ℕ, ◌≡◌, true, false, List, [], ◌∷◌, is_some}
 use Rattle.thread_base.specs.Orders.{is_nil}
-use Rattle.posix_model.specs.Changes.{Outcome}
-use Rattle.posix_model.specs.declared.Head.{Head}
-use Rattle.posix_model.specs.Reports.{nothing_told}
 use Rattle.kernel_state.specs.View.{view, outcome}
-use Rattle.kernel_state.specs.Changing.{change_by, owed, AllCan}
+use Rattle.kernel_state.specs.Changing.{Can, change_by, AllCan}
+use Rattle.kernel_state.specs.Kernels.{KernelState, remaining, IsIdle, owed_by}
 use Rattle.kernel_state.specs.declared.change.Change.{Change}
-use Rattle.kernel_state.specs.declared.kernel.Kernel.{Kernel}
+use Rattle.kernel_state.specs.declared.rest.Rest.{Rest}
+use Rattle.kernel_state.specs.declared.tables.Tables.{Tables}
 use Rattle.kernel_state.specs.declared.kernel.Stepped.{Stepped}
 use Rattle.kernel_state.specs.declared.kernel.Stepped.TheVariants.{More, Exit}
-use Rattle.kernel_state.specs.declared.rest.Rest.{Rest}
 
--- the small changes that are left of a move
-abbrev pub left : Rest → List Change
-left rest = drop rest.next rest.noted.items
+-- a move is in progress
+abbrev pub InProgress : {R : Type 0} → KernelState R → Type 0
+InProgress k = is_some k.main ≡ true
 
--- no move is in progress
-pub record IsIdle (rest : Rest) : Type 0 where
-  pub none : rest.noted.items ≡ []
-  pub first : rest.next ≡ 0
-
--- the state and the report when all changes of the move in progress are made
-abbrev pub owed_by : {R : Type 0} → (R → List ℕ) → Kernel R → Outcome
-owed_by order k = owed (outcome order k.tables) (left k.rest)
-
--- the thread and the main line of a move are told
-abbrev pub told_by : ℕ → Head → Outcome → Outcome
-told_by tid head g = record g { report = record g.report { tid = tid; head = head } }
-
--- the first of the changes that are left was made, and the others are left
-abbrev pub MakesFirst : {R : Type 0} → (R → List ℕ) → Kernel R → Kernel R → Type 0
-MakesFirst order k q = (change : Change) × (left k.rest ≡ change ∷ left q.rest) × (outcome order q.tables ≡ change_by change (outcome order k.tables))
-
--- one small change of the move in progress was made, the first of those that were left, so that what is owed stays
-pub record MakesOne {R : Type 0} (order : R → List ℕ) (k q : Kernel R) : Type 0 where
-  pub first : MakesFirst order k q
-  pub owed : owed_by order q ≡ owed_by order k
-  pub can : AllCan (outcome order q.tables) (left q.rest)
-  pub one : length (left k.rest) ≡ length (left q.rest) + 1
-  pub tid : q.tid ≡ k.tid
-  pub head : q.head ≡ k.head
-  pub settings : q.settings ≡ k.settings
-
--- one small change was made and it was the last one: the move is told, and none is in progress
-pub record MakesLast {R : Type 0} (order : R → List ℕ) (k q : Kernel R) : Type 0 where
-  pub idle : IsIdle q.rest
-  pub view_is : view order q.tables ≡ (owed_by order k).state
-  pub untold : q.tables.report ≡ nothing_told
-  pub settings : q.settings ≡ k.settings
+-- the first of the small changes that are left was made, which could be made, and so can the others
+pub record HasMade {R : Type 0} (order : R → List ℕ) (tables : Tables R) (rest : Rest) (after : Tables R) (others : Rest) : Type 0 where
   pub change : Change
-  pub last : left k.rest ≡ change ∷ []
+  pub first : remaining rest ≡ change ∷ remaining others
+  pub could : Can change (outcome order tables)
+  pub makes : outcome order after ≡ change_by change (outcome order tables)
+  pub can : AllCan (outcome order after) (remaining others)
+
+-- one small change of the move in progress was made, the first of those that were left, and others are left, so that
+-- what is owed stays
+pub record MakesOne {R : Type 0} (order : R → List ℕ) (k q : KernelState R) : Type 0 where
+  pub change : Change
+  pub first : remaining k.rest ≡ change ∷ remaining q.rest
+  pub makes : outcome order q.tables ≡ change_by change (outcome order k.tables)
+  pub more : is_nil (remaining q.rest) ≡ false
+  pub owed : owed_by order q ≡ owed_by order k
+  pub main : q.main ≡ k.main
+  pub settings : q.settings ≡ k.settings
+
+-- one small change was made and it was the last one: the tables show what was owed, and no move is in progress
+pub record MakesLast {R : Type 0} (order : R → List ℕ) (k q : KernelState R) : Type 0 where
+  pub change : Change
+  pub last : remaining k.rest ≡ change ∷ []
+  pub view_is : view order q.tables ≡ (owed_by order k).state
+  pub idle : IsIdle q
+  pub settings : q.settings ≡ k.settings
 
 -- a step of a move: more is left, or it was the last one and the move's report is told
-abbrev pub IsStep : {R : Type 0} → (R → List ℕ) → Kernel R → Stepped → Kernel R → Type 0
-IsStep order k More q = (is_nil (left q.rest) ≡ false) × MakesOne order k q
-IsStep order k (Exit report) q = (report ≡ (told_by k.tid k.head (owed_by order k)).report) × MakesLast order k q
+abbrev pub IsStep : {R : Type 0} → (R → List ℕ) → KernelState R → Stepped → KernelState R → Type 0
+IsStep order k More q = MakesOne order k q
+IsStep order k (Exit report) q = (report ≡ (owed_by order k).report) × MakesLast order k q

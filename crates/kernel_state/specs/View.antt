@@ -7,7 +7,7 @@ use Rattle.rv_exec.specs.declared.Regs.{Regs}
 use Rattle.thread_table.specs.Rows.{rows}
 use Rattle.thread_table.specs.declared.Row.{Row}
 use Rattle.mutex_table.specs.MutexMap.{mutexes as mutex_map}
-use Rattle.mutex_table.specs.declared.Look.{Look}
+use Rattle.mutex_table.specs.declared.MutexState.{MutexState}
 use Rattle.cond_table.specs.ConditionMap.{conditions as condition_map}
 use Rattle.context_frames.specs.Contexts.{saved_of}
 use Rattle.context_frames.specs.declared.Saved.{Saved}
@@ -90,13 +90,13 @@ abbrev pub contexts_of : {R : Type 0} → Tables R → ℕ → Registers
 contexts_of k = put (λ t. context_of (saved_of k.frames t)) k.placed (registers_of k.regs)
 
 -- the mutex of what it does and who has it, and of who waits for it
-abbrev pub seen : Look → List ℕ → Mutex
-seen look waiters = record { kind = look.kind; protocol = look.protocol; holder = look.holder; waiters = waiters }
+abbrev pub mutex_of : MutexState → List ℕ → Mutex
+mutex_of state waiters = record { kind = state.kind; protocol = state.protocol; holder = state.holder; waiters = waiters }
 
 -- the same where there is one
-abbrev pub mutex_by : Option Look → List ℕ → Option Mutex
+abbrev pub mutex_by : Option MutexState → List ℕ → Option Mutex
 mutex_by None waiters = None
-mutex_by (Some look) waiters = Some (seen look waiters)
+mutex_by (Some state) waiters = Some (mutex_of state waiters)
 
 -- the machine state that the tables show
 unfoldable pub view : {R : Type 0} → (R → List ℕ) → Tables R → State

@@ -5,12 +5,12 @@ use Rattle.thread_base.specs.Orders.{is_in}
 use Rattle.posix_model.specs.State.{State, Mutex, waits_on, mutex_with}
 use Rattle.posix_model.specs.Good.{IsGood}
 use Rattle.posix_model.specs.Changes.{Outcome}
-use Rattle.posix_model.specs.Mutexes.{hand, best_waiter}
+use Rattle.posix_model.specs.Mutexes.{hand_off, best_waiter}
 use Rattle.posix_model.specs.Conditions.{wake}
 use Rattle.posix_model.specs.declared.RetakeReply.{RetakeReply}
 use Rattle.kernel_state.specs.View.{view}
 use Rattle.kernel_state.specs.Begun.{HasNoted, HasNotedSome}
-use Rattle.kernel_state.specs.declared.kernel.Kernel.{Kernel}
+use Rattle.kernel_state.specs.Kernels.{KernelState}
 
 -- a thread waits for a condition with a mutex (POSIX.1 pthread_cond_wait)
 pub record WaitsOn (s : State) (u c m : ℕ) : Type 0 where
@@ -25,20 +25,20 @@ pub record LeavesMutex (s r : State) (m : ℕ) : Type 0 where
 
 -- after a move so far that leaves a mutex, it was noted that the mutex goes to its best waiter, or is free
 -- (POSIX.1 pthread_mutex_unlock)
-abbrev pub HandsOver : {R : Type 0} → (R → List ℕ) → Kernel R → Kernel R → ℕ → Type 0
-HandsOver order k q m =
-    (first : Kernel _) (g : Outcome) (mutex : Mutex) → HasNoted order first k g → (view order k.tables).mutexes m ≡ Some mutex → LeavesMutex (view order k.tables) g.state m
-    → HasNotedSome order first q (hand g m mutex (best_waiter (view order k.tables) mutex))
+abbrev pub HandsOff : {R : Type 0} → (R → List ℕ) → KernelState R → KernelState R → ℕ → Type 0
+HandsOff order k q m =
+    (first : KernelState _) (g : Outcome) (mutex : Mutex) → HasNoted order first k g → (view order k.tables).mutexes m ≡ Some mutex → LeavesMutex (view order k.tables) g.state m
+    → HasNotedSome order first q (hand_off g m mutex (best_waiter (view order k.tables) mutex))
 
 -- the same, where the best waiter is this thread
-abbrev pub HandsTo : {R : Type 0} → (R → List ℕ) → Kernel R → Kernel R → ℕ → ℕ → Type 0
-HandsTo order k q m u =
-    (first : Kernel _) (g : Outcome) (mutex : Mutex) → HasNoted order first k g → (view order k.tables).mutexes m ≡ Some mutex → LeavesMutex (view order k.tables) g.state m
-    → HasNotedSome order first q (hand g m mutex (Some u))
+abbrev pub HandsOffTo : {R : Type 0} → (R → List ℕ) → KernelState R → KernelState R → ℕ → ℕ → Type 0
+HandsOffTo order k q m u =
+    (first : KernelState _) (g : Outcome) (mutex : Mutex) → HasNoted order first k g → (view order k.tables).mutexes m ≡ Some mutex → LeavesMutex (view order k.tables) g.state m
+    → HasNotedSome order first q (hand_off g m mutex (Some u))
 
 -- after a move so far that leaves a thread waiting for a condition, it was noted that its wait ends with a reply
 -- (POSIX.1 pthread_cond_signal)
-abbrev pub Wakes : {R : Type 0} → (R → List ℕ) → Kernel R → Kernel R → ℕ → ℕ → ℕ → RetakeReply → Type 0
+abbrev pub Wakes : {R : Type 0} → (R → List ℕ) → KernelState R → KernelState R → ℕ → ℕ → ℕ → RetakeReply → Type 0
 Wakes order k q c m u reply =
-    (first : Kernel _) (g : Outcome) → HasNoted order first k g → IsGood g.state → WaitsOn g.state u c m → g.state.threads u ≡ (view order k.tables).threads u
+    (first : KernelState _) (g : Outcome) → HasNoted order first k g → IsGood g.state → WaitsOn g.state u c m → g.state.threads u ≡ (view order k.tables).threads u
     → HasNotedSome order first q (wake g u reply)

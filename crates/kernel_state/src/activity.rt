@@ -18,7 +18,7 @@ const NO_ACTIVITY: Activity = Activity {
     leaving: None,
 };
 
-/// A life for each thread's number.
+/// What each thread's number does.
 #[derive(Debug, Drop)]
 pub struct Activities {
     activities: [Activity; 64],
@@ -35,14 +35,14 @@ impl Activities {
         }
     }
 
-    /// The life of a thread.
+    /// What a thread does.
     pub fn activity(&self, t: Tid) -> Activity
         ensures { result ≡ activities_of self.now t }
     {
         self.activities[t.index()]
     }
 
-    /// Changes the life of a thread; those of the others stay.
+    /// Changes what a thread does; the others do what they did.
     pub fn put(&mut self, t: Tid, activity: Activity)
         ensures { activities_of self.new ≡ put (activities_of self.old) t activity }
     {

@@ -75,8 +75,8 @@ pub enum SignalChange {
     Take,
 }
 
-/// One small change of the machine, with what it tells. It writes one thread's record, one mutex, condition or
-/// other thing, and one place of one list at most.
+/// One small change of the machine, with what it tells. It writes the record of one thread, one object (a mutex, a
+/// condition, what pends of a signal, the ending) and one place of one list at most.
 #[derive(Clone, Copy, Debug)]
 pub enum Change {
     Thread {

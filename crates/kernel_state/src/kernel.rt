@@ -1,16 +1,18 @@
-ghost use Rattle.std.specs.Prelude.{◌≡◌, ◌<◌, ◌+◌, ◌++◌, [], ◌∷◌, true, false, Some, IfOk, length};
+ghost use Rattle.std.specs.Prelude.{◌≡◌, ◌<◌, ◌+◌, ◌++◌, [], ◌∷◌, true, false, Some, None, IfOk, length};
 ghost use Rattle.thread_base.specs.Orders.{is_nil};
 ghost use Rattle.posix_model.specs.Reports.{nothing_told};
+ghost use Rattle.posix_model.specs.Scheduling.{chosen};
 ghost use Rattle.posix_model.specs.Start.{start_state};
 ghost use Rattle.posix_model.specs.Deliveries.{next_delivery, deliver};
 ghost use Rattle.posix_model.specs.Changes.{begun};
 ghost use Rattle.posix_model.specs.Calls.{refused};
-ghost use Rattle.posix_model.specs.Threads.{exists};
-ghost use Rattle.kernel_state.specs.View.{view, outcome, pending_of, AreCurrent, StayCurrent};
+ghost use Rattle.kernel_state.specs.View.{view, outcome, pending_of, StayCurrent};
 ghost use Rattle.kernel_state.specs.Changing.{Can, change_by, AllCan};
 ghost use Rattle.kernel_state.specs.Executing.{HasExecuted, delivery_by};
-ghost use Rattle.kernel_state.specs.Begun.{CanBegin, HasNotedSome, IsBegun, NotesMore, arguments_of};
-ghost use Rattle.kernel_state.specs.Moves.{left, IsIdle, owed_by, told_by, MakesOne, IsStep};
+ghost use Rattle.kernel_state.specs.Kernels.{IsEmpty, IsIdle, IsSoundKernel, remaining, told, owed_by};
+ghost use Rattle.kernel_state.specs.Begun.{CanBegin, CanNote, CanStart, HasNotedSome, IsBegun, NotesMore, arguments_of};
+ghost use Rattle.kernel_state.specs.Moves.{InProgress, HasMade, IsStep};
+ghost use Rattle.kernel_state.specs.Small.{IsSmall};
 
 use crate::change::{Change, SignalChange};
 use crate::rest::Rest;
@@ -20,6 +22,7 @@ use posix_model::{Arguments, Ending, Head, Reply, Report, Settings};
 use ready_queues::Ready;
 use rv_exec::{Event, Memory};
 use std::alloc::Global;
+use std::marker::Model;
 use thread_base::{Errno, NoMemory, Tid};
 
 /// What a step of a move gave: more of it is left, or it is made, with its report.
@@ -29,15 +32,31 @@ pub enum Stepped {
     Exit(Report),
 }
 
-/// The kernel: all tables, and of the move in progress the small changes that are still to be made, its
-/// thread and its main line.
+/// The thread of a move and its main line.
+#[derive(Clone, Copy, Debug)]
+pub struct MainLine {
+    pub thread: Tid,
+    pub head: Head,
+}
+
+/// The kernel: all tables, and of the move in progress its small changes, and its thread and main line from its
+/// begin to its last change. Its state is good, what it owes made, and each change that is left can be made.
 #[derive(Drop)]
 pub struct Kernel<R: Ready + Drop> {
-    pub(crate) tables: Tables<R>,
-    pub(crate) rest: Rest,
-    pub(crate) tid: u32,
-    pub(crate) head: Head,
-    pub(crate) settings: Settings,
+    tables: Tables<R>,
+    rest: Rest,
+    main: Option<MainLine>,
+    settings: Settings,
+}
+
+impl<R: Ready + Drop> Model for Kernel<R> {
+    ghost use Rattle.kernel_state.specs.Kernels.{KernelState, IsSoundKernel};
+
+    ghost Value = { KernelState R };
+
+    ghost view = { λ k. record { tables = k.tables; rest = k.rest; main = k.main; settings = k.settings } };
+
+    ghost invariant = { λ k. IsSoundKernel R.order R.prio (record { tables = k.tables; rest = k.rest; main = k.main; settings = k.settings }) };
 }
 
 impl<R: Ready + Drop> Kernel<R> {
@@ -52,63 +71,59 @@ impl<R: Ready + Drop> Kernel<R> {
     ) -> Result<Kernel<R>, NoMemory>
         requires { R.order ready ≡ [] }
         ensures start { IfOk result (λ k. view R.order k.tables ≡ start_state memory entry.0) }
-        ensures current { IfOk result (λ k. AreCurrent (R.prio k.tables.ready) (view R.order k.tables)) }
-        ensures idle { IfOk result (λ k. IsIdle k.rest) }
-        ensures untold { IfOk result (λ k. k.tables.report ≡ nothing_told) }
+        ensures idle { IfOk result IsIdle }
         ensures settings { IfOk result (λ k. k.settings ≡ settings) }
         ensures ready { IfOk result (λ k. CanBegin R.order k 1) }
     {
         Ok(Kernel {
             tables: Tables::new(alloc, ready, memory, entry)?,
             rest: Rest::new(),
-            tid: 0,
-            head: Head::Quiet,
+            main: None,
             settings,
         })
     }
 
-    /// All tables.
+    /// All tables. What always holds of a kernel is told here.
     pub fn tables(&self) -> &Tables<R>
-        ensures { result.now ≡ self.now.tables }
+        ensures tables { result.now ≡ self.now.tables }
+        ensures sound { IsSoundKernel R.order R.prio self.now }
     {
         &self.tables
     }
 
-    /// Whether no move is in progress.
-    pub fn is_idle(&self) -> bool
-        ensures { result ≡ is_nil (left self.now.rest) }
+    /// The thread that runs: the first ready one of greatest priority; None exactly where none is ready.
+    pub fn chosen(&self) -> Option<Tid>
+        ensures { result ≡ chosen (view R.order self.now.tables) }
     {
-        self.rest.is_empty()
+        self.tables.chosen()
     }
 
     /// Puts the registers of a thread in place; the machine stays.
     pub fn place(&mut self, t: Tid)
         ensures view { view R.order self.new.tables ≡ view R.order self.old.tables }
         ensures placed { self.new.tables.placed ≡ t }
-        ensures report { self.new.tables.report ≡ self.old.tables.report }
-        ensures current { StayCurrent R.order R.prio self.old.tables self.new.tables }
         ensures others { self.new ≡ record self.old { tables = self.new.tables } }
     {
         self.tables.place(t);
     }
 
-    /// Makes one instruction of the thread whose registers are in place, up to what its event asks for: with
-    /// Next it was made, by the RISC-V manual, and with another event nothing changed.
+    /// Makes one instruction of the thread whose registers are in place, which is the chosen one, up to what its
+    /// event asks for: with Next it was made, by the RISC-V manual, and with another event nothing changed.
     #[inline(always)]
     pub fn execute(&mut self) -> Event
-        requires { exists (view R.order self.old.tables) self.old.tables.placed ≡ true }
+        requires idle { self.old.main ≡ None }
+        requires chosen { chosen (view R.order self.old.tables) ≡ Some self.old.tables.placed }
         ensures executed { HasExecuted (view R.order self.old.tables) self.old.tables.placed result (view R.order self.new.tables) }
         ensures placed { self.new.tables.placed ≡ self.old.tables.placed }
-        ensures report { self.new.tables.report ≡ self.old.tables.report }
-        ensures current { StayCurrent R.order R.prio self.old.tables self.new.tables }
         ensures others { self.new ≡ record self.old { tables = self.new.tables } }
     {
         self.tables.execute()
     }
 
-    /// Notes a small change that the move in progress still has to make, after those noted before.
+    /// Notes a small change that the move to be begun has to make, after those noted before.
     fn note(&mut self, change: Change)
-        requires { length self.old.rest.noted.items < 512 }
+        requires room { length self.old.rest.noted.items < 512 }
+        requires idle { self.old.main ≡ None }
         ensures noted { self.new.rest.noted.items ≡ self.old.rest.noted.items ++ change ∷ [] }
         ensures next { self.new.rest.next ≡ self.old.rest.next }
         ensures others { self.new ≡ record self.old { rest = self.new.rest } }
@@ -118,7 +133,7 @@ impl<R: Ready + Drop> Kernel<R> {
 
     /// Notes the one small change of a move of a thread that is ready.
     pub fn note_one(&mut self, t: Tid, change: Change)
-        requires ready { CanBegin R.order self.old t }
+        requires ready { CanNote R.order self.old t }
         requires can { Can change (begun (view R.order self.old.tables)) }
         ensures { HasNotedSome R.order self.old self.new (change_by change (begun (view R.order self.old.tables))) }
     {
@@ -127,7 +142,7 @@ impl<R: Ready + Drop> Kernel<R> {
 
     /// Notes the two small changes of a move of a thread that is ready.
     pub fn note_two(&mut self, t: Tid, first: Change, second: Change)
-        requires ready { CanBegin R.order self.old t }
+        requires ready { CanNote R.order self.old t }
         requires first { Can first (begun (view R.order self.old.tables)) }
         requires second { Can second (change_by first (begun (view R.order self.old.tables))) }
         ensures { HasNotedSome R.order self.old self.new (change_by second (change_by first (begun (view R.order self.old.tables)))) }
@@ -136,18 +151,21 @@ impl<R: Ready + Drop> Kernel<R> {
         self.note_more(second);
     }
 
-    /// Notes one small change more of a move, after those that were noted before. A move has 512 at most.
+    /// Notes one small change more of the move to be begun, after those that were noted before. A move has 512 at
+    /// most.
     pub fn note_more(&mut self, change: Change)
-        requires { length self.old.rest.noted.items < 512 }
+        requires room { length self.old.rest.noted.items < 512 }
+        requires idle { self.old.main ≡ None }
         ensures noted { NotesMore R.order self.old self.new change }
         ensures length { length self.new.rest.noted.items ≡ length self.old.rest.noted.items + 1 }
+        ensures idle { self.new.main ≡ None }
     {
         self.note(change);
     }
 
     /// Notes the answer of a refusal: an error, and nothing else changes.
     pub fn refuse(&mut self, t: Tid, error: Errno) -> Reply
-        requires { CanBegin R.order self.old t }
+        requires { CanNote R.order self.old t }
         ensures noted { HasNotedSome R.order self.old self.new (refused (view R.order self.old.tables) t error).outcome }
         ensures reply { result ≡ (refused (view R.order self.old.tables) t error).reply }
     {
@@ -155,14 +173,22 @@ impl<R: Ready + Drop> Kernel<R> {
         Reply::refusal(error)
     }
 
-    /// Notes the delivery of a fault's signal that is next, whose default action ends the process.
-    pub fn note_delivery(&mut self, fault: Fault)
-        requires idle { IsIdle self.old.rest }
-        requires untold { self.old.tables.report ≡ nothing_told }
+    /// Begins the move of the small changes that were noted, with its thread and its main line.
+    pub fn begin_move(&mut self, t: Tid, head: Head)
+        requires { CanStart R.order self.old }
+        ensures { self.new ≡ record self.old { main = Some (record { thread = t; head = head }) } }
+    {
+        self.main = Some(MainLine { thread: t, head });
+    }
+
+    /// Begins the delivery of a fault's signal that is next, whose default action ends the process.
+    pub fn begin_delivery(&mut self, fault: Fault)
+        requires idle { IsIdle self.old }
         requires next { next_delivery (view R.order self.old.tables) ≡ delivery_by (Some fault) }
         requires pending { (view R.order self.old.tables).pending ≡ pending_of (Some fault) }
         ensures { IsBegun R.order self.old self.new (deliver (view R.order self.old.tables)) }
     {
+        let _sound = self.tables();
         let t = fault.thread;
         let signal = fault.signal;
         self.note_more(Change::Signal {
@@ -173,7 +199,7 @@ impl<R: Ready + Drop> Kernel<R> {
         self.note_more(Change::Over {
             ending: Ending::Killed(signal),
         });
-        self.note_head(
+        self.begin_move(
             t,
             Head::Deliver {
                 to: t.number(),
@@ -183,76 +209,73 @@ impl<R: Ready + Drop> Kernel<R> {
         );
     }
 
-    /// Notes the thread and the main line of the move in progress.
-    pub fn note_head(&mut self, t: Tid, head: Head)
-        ensures { self.new ≡ record self.old { tid = t; head = head } }
-    {
-        self.tid = t.number();
-        self.head = head;
-    }
-
-    /// Makes the first of the small changes that are left of the move in progress: the others are left, and what
-    /// is owed stays.
-    pub fn step(&mut self)
-        requires left { is_nil (left self.old.rest) ≡ false }
-        requires can { AllCan (outcome R.order self.old.tables) (left self.old.rest) }
-        ensures one { MakesOne R.order self.old self.new }
-        ensures current { StayCurrent R.order R.prio self.old.tables self.new.tables }
-    {
-        let change = self.rest.take();
-        self.tables.make(change);
-    }
-
-    /// The report of a move whose changes are all made; no move is in progress then, and nothing is told.
-    #[tactic(auto, unfolding(crate::specs::View::view, crate::specs::View::outcome))]
-    fn take_report(&mut self) -> Report
-        ensures report { result ≡ (told_by self.old.tid self.old.head (outcome R.order self.old.tables)).report }
-        ensures view { view R.order self.new.tables ≡ view R.order self.old.tables }
-        ensures untold { self.new.tables.report ≡ nothing_told }
-        ensures current { StayCurrent R.order R.prio self.old.tables self.new.tables }
-        ensures idle { IsIdle self.new.rest }
-        ensures settings { self.new.settings ≡ self.old.settings }
-    {
-        let report = Report {
-            tid: self.tid,
-            head: self.head,
-            ..self.tables.report
-        };
-        self.tables.report = Report::nothing();
-        self.rest.clear();
-        report
-    }
-
-    /// Makes all that is left of the move in progress, and gives its report: the tables then show what was owed.
-    pub fn finish(&mut self) -> Report
-        requires { AllCan (outcome R.order self.old.tables) (left self.old.rest) }
-        ensures state { view R.order self.new.tables ≡ (owed_by R.order self.old).state }
-        ensures report { result ≡ (told_by self.old.tid self.old.head (owed_by R.order self.old)).report }
-        ensures idle { IsIdle self.new.rest }
-        ensures untold { self.new.tables.report ≡ nothing_told }
-        ensures settings { self.new.settings ≡ self.old.settings }
-        ensures current { StayCurrent R.order R.prio self.old.tables self.new.tables }
-    {
-        while !self.is_idle() {
-            self.step();
-        }
-        self.take_report()
-    }
-
-    /// Makes the next small change of the move in progress. Exit comes exactly where it was the last one.
-    pub fn step_move(&mut self) -> Stepped
-        requires left { is_nil (left self.old.rest) ≡ false }
-        requires can { AllCan (outcome R.order self.old.tables) (left self.old.rest) }
+    /// Makes the next small change of the move in progress, and no other. Exit comes exactly where it was the last
+    /// one.
+    pub fn step(&mut self) -> Stepped
+        requires { InProgress self.old }
         ensures step { IsStep R.order self.old result self.new }
-        ensures current { StayCurrent R.order R.prio self.old.tables self.new.tables }
+        ensures small { IsSmall (view R.order self.old.tables) (view R.order self.new.tables) }
     {
-        self.step();
-        if self.is_idle() {
-            Stepped::Exit(self.take_report())
+        make_next(&mut self.tables, &mut self.rest);
+        if self.rest.is_empty() {
+            Stepped::Exit(take_report(&mut self.tables, &mut self.rest, &mut self.main))
         } else {
             Stepped::More
         }
     }
+
+    /// Makes all that is left of the move in progress, and gives its report: the tables then show what was owed.
+    pub fn finish(&mut self) -> Report
+        requires { InProgress self.old }
+        ensures state { view R.order self.new.tables ≡ (owed_by R.order self.old).state }
+        ensures report { result ≡ (owed_by R.order self.old).report }
+        ensures idle { IsIdle self.new }
+        ensures settings { self.new.settings ≡ self.old.settings }
+    {
+        while !self.rest.is_empty() {
+            make_next(&mut self.tables, &mut self.rest);
+        }
+        take_report(&mut self.tables, &mut self.rest, &mut self.main)
+    }
+}
+
+/// Makes the first of the small changes that are left: the others are left.
+fn make_next<R: Ready + Drop>(tables: &mut Tables<R>, rest: &mut Rest)
+    requires some { is_nil (remaining rest.old) ≡ false }
+    requires can { AllCan (outcome R.order tables.old) (remaining rest.old) }
+    ensures made { HasMade R.order tables.old rest.old tables.new rest.new }
+    ensures current { StayCurrent R.order R.prio tables.old tables.new }
+{
+    let change = rest.take();
+    tables.make(change);
+}
+
+/// The report of a move whose changes are all made; no move is in progress then, and nothing is told.
+#[tactic(auto, unfolding(crate::specs::View::view, crate::specs::View::outcome))]
+fn take_report<R: Ready + Drop>(
+    tables: &mut Tables<R>,
+    rest: &mut Rest,
+    main: &mut Option<MainLine>,
+) -> Report
+    ensures report { result ≡ told main.old (outcome R.order tables.old).report }
+    ensures view { view R.order tables.new ≡ view R.order tables.old }
+    ensures untold { tables.new.report ≡ nothing_told }
+    ensures current { StayCurrent R.order R.prio tables.old tables.new }
+    ensures empty { IsEmpty rest.new }
+    ensures main { main.new ≡ None }
+{
+    let report = match main {
+        None => tables.report,
+        Some(main) => Report {
+            tid: main.thread.number(),
+            head: main.head,
+            ..tables.report
+        },
+    };
+    tables.report = Report::nothing();
+    rest.clear();
+    *main = None;
+    report
 }
 
 /// The arguments of a call by their names, from a0, a1, a2 and a3.

@@ -15,6 +15,6 @@ mod waking;
 
 pub use activity::{Activities, Activity};
 pub use change::{Beginning, Change, ConditionChange, MutexChange, SignalChange, ThreadChange};
-pub use kernel::{Kernel, Stepped, arguments_from};
+pub use kernel::{Kernel, MainLine, Stepped, arguments_from};
 pub use rest::Rest;
 pub use tables::{Fault, Tables, ThreadRecord};

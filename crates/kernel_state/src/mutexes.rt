@@ -15,18 +15,18 @@ ghost use Rattle.kernel_state.specs.Changing.{change_by, mutex_change_by, CanMut
 
 use crate::change::{Change, MutexChange};
 use crate::tables::Tables;
-use mutex_table::{Look, Mutexes};
+use mutex_table::{MutexState, Mutexes};
 use posix_model::{RetakeReply, Wait};
 use ready_queues::Ready;
 use thread_base::{Holder, Tid};
 
 impl<R: Ready + Drop> Tables<R> {
     /// What a mutex does and who has it; None exactly where there is no mutex of this number.
-    pub fn mutex(&self, m: u32) -> Option<Look>
+    pub fn mutex(&self, m: u32) -> Option<MutexState>
         ensures mutex { (view R.order self.now).mutexes m ≡ mutex_by result (waiters_in ((view R.order self.now).mutexes m)) }
         ensures limit { IsSome result → m < 256 }
     {
-        self.mutexes.look(m)
+        self.mutexes.lookup(m)
     }
 
     /// The least mutex from a number on that a thread has; None exactly where it has none of them.

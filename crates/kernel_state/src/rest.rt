@@ -1,6 +1,6 @@
 ghost use Rattle.std.specs.Prelude.{◌≡◌, ◌∷◌, false};
 ghost use Rattle.thread_base.specs.Orders.{is_nil};
-ghost use Rattle.kernel_state.specs.Moves.{left, IsIdle};
+ghost use Rattle.kernel_state.specs.Kernels.{remaining, IsEmpty};
 
 use crate::change::Change;
 use arrayvec::ArrayVec;
@@ -15,7 +15,7 @@ pub struct Rest {
 impl Rest {
     /// No move is in progress.
     pub fn new() -> Rest
-        ensures { IsIdle result }
+        ensures { IsEmpty result }
     {
         Rest {
             noted: ArrayVec::new(),
@@ -25,15 +25,15 @@ impl Rest {
 
     /// Whether no change is left.
     pub fn is_empty(&self) -> bool
-        ensures { result ≡ is_nil (left self.now) }
+        ensures { result ≡ is_nil (remaining self.now) }
     {
         self.next >= self.noted.len()
     }
 
     /// Takes the first of the changes that are left.
     pub fn take(&mut self) -> Change
-        requires { is_nil (left self.old) ≡ false }
-        ensures { left self.old ≡ result ∷ left self.new }
+        requires { is_nil (remaining self.old) ≡ false }
+        ensures { remaining self.old ≡ result ∷ remaining self.new }
     {
         let change = self.noted[self.next];
         self.next += 1;
@@ -42,7 +42,7 @@ impl Rest {
 
     /// Forgets the changes of a move that is made.
     pub fn clear(&mut self)
-        ensures { IsIdle self.new }
+        ensures { IsEmpty self.new }
     {
         self.noted.clear();
         self.next = 0;

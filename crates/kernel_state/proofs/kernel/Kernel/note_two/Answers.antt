@@ -5,8 +5,8 @@ use Rattle.kernel_state.specs.declared.change.Change.{Change}
 use Rattle.kernel_state.proofs.NoteLemmas.{noted_none, noted_two}
 use Rattle.kernel_state.proofs.kernel.Kernel.note_two.Goals as goal
 
-pub note_more-requires : goal.note_more-requires
-note_more-requires g c = let e = ap (length {A = Change}) c.requires.ready.idle.none in omega (arith, e)
+pub note_more-requires-clause-room : goal.note_more-requires-clause-room
+note_more-requires-clause-room g c = let e = ap (length {A = Change}) c.requires.ready.idle.rest.none in omega (arith, e)
 
 pub returns : goal.returns
 returns g c =

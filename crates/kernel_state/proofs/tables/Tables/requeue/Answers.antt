@@ -1,5 +1,5 @@
 use Rattle.std.proofs.Common.{◌∙◌, ap}
-use Rattle.thread_base.specs.Objects.{with_waiters, behind}
+use Rattle.thread_base.specs.Objects.{with_waiters, appended}
 use Rattle.posix_model.specs.State.{State, Thread, Waits, is_live}
 use Rattle.posix_model.specs.Changes.{Outcome, set_thread}
 use Rattle.posix_model.specs.Mutexes.{set_mutex}
@@ -16,6 +16,6 @@ unfolding outcome
 returns-clause-outcome g c = λ mutex is.
     let before : Outcome = outcome g.R.Ready.order c.args.self.now in
     let waits : State → State = λ s. set_thread s c.args.t (record (s.threads c.args.t) { standing = Waits (Reacquire c.args.m c.args.reply c.args.count) }) in
-    let queued = c.change_mutex.ensures.outcome ∙ ap (λ o. record before { state = set_mutex before.state c.args.m (with_waiters (behind c.args.t) o) }) is in
+    let queued = c.change_mutex.ensures.outcome ∙ ap (λ o. record before { state = set_mutex before.state c.args.m (with_waiters (appended c.args.t) o) }) is in
     (λ i. record { state = c.wait_for.ensures.view i; report = c.wait_for.ensures.report i })
     ∙ ap (λ (x : Outcome). record x { state = waits x.state }) queued
