@@ -12,7 +12,7 @@ use Rattle.posix_model.specs.Threads.{exists}
 use Rattle.posix_model.specs.declared.RetakeReply.{RetakeReply}
 use Rattle.posix_model.specs.Good.{IsGood}
 use Rattle.thread_base.specs.Objects.{holder_in}
-use Rattle.posix_model.specs.Mutexes.{most_locks, set_mutex, reply_due, hand}
+use Rattle.posix_model.specs.Mutexes.{most_locks, set_mutex, reply_due, hand_off}
 use Rattle.posix_model.specs.MutexCalls.{is_checked, is_full, is_open_to, take, queue, lock_of, trylock_of, released, unlock_of}
 use Rattle.posix_model.specs.Replies.{refused, values}
 use Rattle.posix_model.proofs.StandingLemmas.{ready_wants, wants_waits}
@@ -51,7 +51,7 @@ go_on_there g u t reply h =
       | inr other ↦ at_other (λ (x : Thread). not (is_absent x.standing)) g.state.threads u t thread other ∙ h
     ]
 
-pub handed_there : (g : Outcome) (m : ℕ) (mutex : Mutex) (o : Option ℕ) (t : ℕ) → exists g.state t ≡ true → exists (hand g m mutex o).state t ≡ true
+pub handed_there : (g : Outcome) (m : ℕ) (mutex : Mutex) (o : Option ℕ) (t : ℕ) → exists g.state t ≡ true → exists (hand_off g m mutex o).state t ≡ true
 handed_there g m mutex None t h = h
 handed_there g m mutex (Some u) t h =
     go_on_there (record g { state = set_mutex g.state m (Some (record mutex { holder = Held u (count_due (g.state.threads u).standing); waiters = without u mutex.waiters })) }) u t

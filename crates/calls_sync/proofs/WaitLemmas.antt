@@ -22,11 +22,11 @@ use Rattle.kernel_state.specs.View.{view}
 use Rattle.kernel_state.specs.Waking.{LeavesMutex}
 use Rattle.calls_sync.proofs.MutexLemmas.{leaves_at_first, waits_for_none as no_mutex}
 use Rattle.kernel_state.specs.Changing.{change_by, IsListed, WaitsForNoCondition}
-use Rattle.kernel_state.specs.Begun.{CanBegin, HasNoted, NotesMore}
+use Rattle.kernel_state.specs.Begun.{CanNote, HasNoted, NotesMore}
 use Rattle.kernel_state.specs.declared.change.Change.TheVariants.{Thread as OfThread, Condition as OfCondition}
 use Rattle.kernel_state.specs.declared.change.ConditionChange.TheVariants.{Enter}
 use Rattle.kernel_state.specs.declared.change.ThreadChange.TheVariants.{Await}
-use Rattle.kernel_state.specs.declared.kernel.Kernel.{Kernel}
+use Rattle.kernel_state.specs.Kernels.{KernelState}
 use Rattle.kernel_state.proofs.NoteLemmas.{noted_none, noted_two, tables_stay}
 
 -- who is ready waits for no condition
@@ -41,9 +41,9 @@ bound_so (Some n) m same k e = (let f : Some n ≡ Some k = e in let g : n ≡ k
     by true is h = eqb-true n m is
     by false is h = absurd (let e : true ≡ false = h in cc)
 
-module _ {R : Type 0} (order : R → List ℕ) (k : Kernel R) (t c m count : ℕ) (ready : CanBegin order k t) (there : is_some ((view order k.tables).conditions c) ≡ true)
+module _ {R : Type 0} (order : R → List ℕ) (k : KernelState R) (t c m count : ℕ) (ready : CanNote order k t) (there : is_some ((view order k.tables).conditions c) ≡ true)
     (same : is_other m (cond_mutex ((view order k.tables).conditions c)) ≡ false)
-    (q : Kernel R) (more : NotesMore order k q (OfCondition c (Enter t m))) (r : Kernel R) (more2 : NotesMore order q r (OfThread t (Await (Cond c m None count)))) where
+    (q : KernelState R) (more : NotesMore order k q (OfCondition c (Enter t m))) (r : KernelState R) (more2 : NotesMore order q r (OfThread t (Await (Cond c m None count)))) where
   pub entered : HasNoted order k r (change_by (OfThread t (Await (Cond c m None count))) (change_by (OfCondition c (Enter t m)) (begun (view order k.tables))))
   entered =
       (noted_two order k k (begun (view order k.tables)) (noted_none order k ready.idle ready.untold)

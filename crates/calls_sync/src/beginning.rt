@@ -1,11 +1,10 @@
 ghost use Rattle.std.specs.Prelude.{◌≡◌, true, false};
 ghost use Rattle.thread_base.specs.Numbers.{family_of};
-ghost use Rattle.thread_base.specs.Orders.{is_nil};
 ghost use Rattle.posix_model.specs.Calls.{call as call_of, told_call, row_of, sync_calls};
-ghost use Rattle.kernel_state.specs.View.{view, outcome, StayCurrent};
-ghost use Rattle.kernel_state.specs.Changing.{AllCan};
-ghost use Rattle.kernel_state.specs.Moves.{left, IsStep};
-ghost use Rattle.kernel_state.specs.Begun.{CanBegin, HasNotedSome, IsBegun, arguments_of};
+ghost use Rattle.kernel_state.specs.View.{view};
+ghost use Rattle.kernel_state.specs.Moves.{InProgress, IsStep};
+ghost use Rattle.kernel_state.specs.Small.{IsSmall};
+ghost use Rattle.kernel_state.specs.Begun.{CanBegin, CanNote, HasNotedSome, IsBegun, arguments_of};
 
 use crate::conditions::{cond_broadcast, cond_destroy, cond_init, cond_signal, cond_wait};
 use crate::mutexes::{destroy, init, lock, trylock, unlock};
@@ -14,7 +13,7 @@ use posix_model::{Arguments, Head, Reply};
 use ready_queues::Ready;
 use thread_base::{CallNo, Errno, Family, Tid};
 
-/// Begins a call of this crate, of a thread that is ready: what it owes is its row of the call table.
+/// Begins a call of this crate, of the chosen thread: what it owes is its row of the call table.
 pub fn begin<R: Ready + Drop>(k: &mut Kernel<R>, t: Tid, call: CallNo, args: [u32; 4])
     requires ready { CanBegin R.order k.old t }
     requires here { family_of call ≡ Family.Sync }
@@ -25,11 +24,13 @@ pub fn begin<R: Ready + Drop>(k: &mut Kernel<R>, t: Tid, call: CallNo, args: [u3
 
 /// Begins the row of a number among the calls of this crate.
 fn begin_row<R: Ready + Drop>(k: &mut Kernel<R>, t: Tid, number: u32, args: [u32; 4])
-    requires { CanBegin R.order k.old t }
+    requires ready { CanBegin R.order k.old t }
+    requires here { family_of number ≡ Family.Sync }
     ensures { IsBegun R.order k.old k.new (told_call t number (arguments_of args) (row_of sync_calls number (view R.order k.old.tables) t (arguments_of args))) }
 {
+    let _sound = k.tables();
     let reply = row(k, t, number, arguments_from(args));
-    k.note_head(
+    k.begin_move(
         t,
         Head::Call {
             no: number,
@@ -39,20 +40,19 @@ fn begin_row<R: Ready + Drop>(k: &mut Kernel<R>, t: Tid, number: u32, args: [u32
     );
 }
 
-/// Makes the next small change of the move in progress: what it owes stays. Exit, with the move's report,
-/// comes exactly where it was the last one.
+/// Makes one small change of the move in progress, the next one. Exit, with the move's report, comes exactly where
+/// it was the last one.
 pub fn step<R: Ready + Drop>(k: &mut Kernel<R>) -> Stepped
-    requires left { is_nil (left k.old.rest) ≡ false }
-    requires can { AllCan (outcome R.order k.old.tables) (left k.old.rest) }
+    requires { InProgress k.old }
     ensures step { IsStep R.order k.old result k.new }
-    ensures current { StayCurrent R.order R.prio k.old.tables k.new.tables }
+    ensures small { IsSmall (view R.order k.old.tables) (view R.order k.new.tables) }
 {
-    k.step_move()
+    k.step()
 }
 
-/// Makes the row of one of the calls of this crate; a number that it does not have answers ENOSYS.
+/// Notes the row of one of the calls of this crate; a number that it does not have answers ENOSYS.
 fn row<R: Ready + Drop>(k: &mut Kernel<R>, t: Tid, number: u32, c: Arguments) -> Reply
-    requires { CanBegin R.order k.old t }
+    requires { CanNote R.order k.old t }
     ensures noted { HasNotedSome R.order k.old k.new (row_of sync_calls number (view R.order k.old.tables) t c).outcome }
     ensures reply { result ≡ (row_of sync_calls number (view R.order k.old.tables) t c).reply }
 {

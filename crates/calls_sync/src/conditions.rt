@@ -11,19 +11,19 @@ ghost use Rattle.posix_model.specs.Scheduling.{eff};
 ghost use Rattle.posix_model.specs.Good.{IsGood};
 ghost use Rattle.posix_model.specs.Threads.{exists};
 ghost use Rattle.posix_model.specs.declared.RetakeReply.TheVariants.{Answer};
-ghost use Rattle.kernel_state.specs.View.{view, seen};
-ghost use Rattle.kernel_state.specs.Begun.{CanBegin, HasNoted, HasNotedSome};
+ghost use Rattle.kernel_state.specs.View.{view, mutex_of};
+ghost use Rattle.kernel_state.specs.Begun.{CanNote, HasNoted, HasNotedSome};
 
 use crate::mutexes::answer;
 use kernel_state::{Change, ConditionChange, Kernel, ThreadChange};
-use mutex_table::Look;
+use mutex_table::MutexState;
 use posix_model::{Arguments, Reply, RetakeReply, Wait};
 use ready_queues::Ready;
 use thread_base::{Errno, Tid};
 
 /// Makes a condition, by POSIX.1 pthread_cond_init.
 pub(crate) fn cond_init<R: Ready + Drop>(k: &mut Kernel<R>, t: Tid, c: Arguments) -> Reply
-    requires { CanBegin R.order k.old t }
+    requires { CanNote R.order k.old t }
     ensures noted { HasNotedSome R.order k.old k.new (rows.cond_init (view R.order k.old.tables) t c).outcome }
     ensures reply { result ≡ (rows.cond_init (view R.order k.old.tables) t c).reply }
 {
@@ -40,7 +40,7 @@ pub(crate) fn cond_init<R: Ready + Drop>(k: &mut Kernel<R>, t: Tid, c: Arguments
 
 /// Takes a condition away for which nobody waits, by POSIX.1 pthread_cond_destroy.
 pub(crate) fn cond_destroy<R: Ready + Drop>(k: &mut Kernel<R>, t: Tid, c: Arguments) -> Reply
-    requires { CanBegin R.order k.old t }
+    requires { CanNote R.order k.old t }
     ensures noted { HasNotedSome R.order k.old k.new (rows.cond_destroy (view R.order k.old.tables) t c).outcome }
     ensures reply { result ≡ (rows.cond_destroy (view R.order k.old.tables) t c).reply }
 {
@@ -57,7 +57,7 @@ pub(crate) fn cond_destroy<R: Ready + Drop>(k: &mut Kernel<R>, t: Tid, c: Argume
 
 /// Waits for a condition with a mutex, which is released, by POSIX.1 pthread_cond_wait.
 pub(crate) fn cond_wait<R: Ready + Drop>(k: &mut Kernel<R>, t: Tid, c: Arguments) -> Reply
-    requires { CanBegin R.order k.old t }
+    requires { CanNote R.order k.old t }
     ensures noted { HasNotedSome R.order k.old k.new (rows.cond_wait (view R.order k.old.tables) t c).outcome }
     ensures reply { result ≡ (rows.cond_wait (view R.order k.old.tables) t c).reply }
 {
@@ -66,7 +66,7 @@ pub(crate) fn cond_wait<R: Ready + Drop>(k: &mut Kernel<R>, t: Tid, c: Arguments
     }
     match k.tables().mutex(c.a1) {
         None => k.refuse(t, Errno::EINVAL),
-        Some(look) => wait_with(k, t, c.a0, c.a1, look),
+        Some(mutex) => wait_with(k, t, c.a0, c.a1, mutex),
     }
 }
 
@@ -81,29 +81,29 @@ fn is_other(bound: Option<u32>, m: u32) -> bool
 }
 
 /// Waits for a condition with a mutex that is there.
-fn wait_with<R: Ready + Drop>(k: &mut Kernel<R>, t: Tid, c: u32, m: u32, look: Look) -> Reply
-    requires ready { CanBegin R.order k.old t }
+fn wait_with<R: Ready + Drop>(k: &mut Kernel<R>, t: Tid, c: u32, m: u32, mutex: MutexState) -> Reply
+    requires ready { CanNote R.order k.old t }
     requires exists { is_some ((view R.order k.old.tables).conditions c) ≡ true }
-    requires found { (view R.order k.old.tables).mutexes m ≡ Some (seen look (waiters_in ((view R.order k.old.tables).mutexes m))) }
+    requires found { (view R.order k.old.tables).mutexes m ≡ Some (mutex_of mutex (waiters_in ((view R.order k.old.tables).mutexes m))) }
     ensures noted { (condition : Condition) → (view R.order k.old.tables).conditions c ≡ Some condition
-        → HasNotedSome R.order k.old k.new (rows.cond_wait_of (view R.order k.old.tables) t c (Some condition) m (Some (seen look (waiters_in ((view R.order k.old.tables).mutexes m))))).outcome }
+        → HasNotedSome R.order k.old k.new (rows.cond_wait_of (view R.order k.old.tables) t c (Some condition) m (Some (mutex_of mutex (waiters_in ((view R.order k.old.tables).mutexes m))))).outcome }
     ensures reply { (condition : Condition) → (view R.order k.old.tables).conditions c ≡ Some condition
-        → result ≡ (rows.cond_wait_of (view R.order k.old.tables) t c (Some condition) m (Some (seen look (waiters_in ((view R.order k.old.tables).mutexes m))))).reply }
+        → result ≡ (rows.cond_wait_of (view R.order k.old.tables) t c (Some condition) m (Some (mutex_of mutex (waiters_in ((view R.order k.old.tables).mutexes m))))).reply }
 {
-    if !look.holder.is_held_by(t) {
+    if !mutex.holder.is_held_by(t) {
         return k.refuse(t, Errno::EPERM);
     }
     if is_other(k.tables().condition_mutex(c), m) {
         return k.refuse(t, Errno::EINVAL);
     }
-    wait_and_release(k, t, c, m, look.holder.count());
+    wait_and_release(k, t, c, m, mutex.holder.count());
     Reply::Block
 }
 
-/// Notes that the caller waits for a condition, behind the others, and that its mutex is handed over, which it had
+/// Notes that the caller waits for a condition, after the others, and that its mutex is handed over, which it had
 /// so often.
 fn wait_and_release<R: Ready + Drop>(k: &mut Kernel<R>, t: Tid, c: u32, m: u32, count: u32)
-    requires ready { CanBegin R.order k.old t }
+    requires ready { CanNote R.order k.old t }
     requires exists { is_some ((view R.order k.old.tables).conditions c) ≡ true }
     requires there { is_some ((view R.order k.old.tables).mutexes m) ≡ true }
     requires same { is_other m (cond_mutex ((view R.order k.old.tables).conditions c)) ≡ false }
@@ -128,12 +128,12 @@ fn wait_and_release<R: Ready + Drop>(k: &mut Kernel<R>, t: Tid, c: u32, m: u32, 
         thread: t,
         change: ThreadChange::Await { wait },
     });
-    k.hand_over(m);
+    k.hand_off(m);
 }
 
 /// Wakes the best waiter of a condition, if there is one, by POSIX.1 pthread_cond_signal.
 pub(crate) fn cond_signal<R: Ready + Drop>(k: &mut Kernel<R>, t: Tid, c: Arguments) -> Reply
-    requires { CanBegin R.order k.old t }
+    requires { CanNote R.order k.old t }
     ensures noted { HasNotedSome R.order k.old k.new (rows.cond_signal (view R.order k.old.tables) t c).outcome }
     ensures reply { result ≡ (rows.cond_signal (view R.order k.old.tables) t c).reply }
 {
@@ -146,7 +146,7 @@ pub(crate) fn cond_signal<R: Ready + Drop>(k: &mut Kernel<R>, t: Tid, c: Argumen
 
 /// Notes that the best waiter of a condition is woken, if there is one, and that the caller is answered.
 fn signal<R: Ready + Drop>(k: &mut Kernel<R>, t: Tid, c: u32)
-    requires ready { CanBegin R.order k.old t }
+    requires ready { CanNote R.order k.old t }
     requires exists { is_some ((view R.order k.old.tables).conditions c) ≡ true }
     ensures { (condition : Condition) → (view R.order k.old.tables).conditions c ≡ Some condition
         → HasNotedSome R.order k.old k.new (values (rows.wake_one (begun (view R.order k.old.tables)) (next_woken (view R.order k.old.tables) condition)) t 0 0).outcome }
@@ -159,7 +159,7 @@ fn signal<R: Ready + Drop>(k: &mut Kernel<R>, t: Tid, c: u32)
 
 /// Notes that a waiter of a condition is woken, and that the caller is answered.
 fn wake_best<R: Ready + Drop>(k: &mut Kernel<R>, t: Tid, c: u32, u: Tid)
-    requires ready { CanBegin R.order k.old t }
+    requires ready { CanNote R.order k.old t }
     requires waits { is_in u (cond_waiters ((view R.order k.old.tables).conditions c)) ≡ true }
     ensures { HasNotedSome R.order k.old k.new (values (wake (begun (view R.order k.old.tables)) u (Answer 0)) t 0 0).outcome }
 {
@@ -174,7 +174,7 @@ fn wake_best<R: Ready + Drop>(k: &mut Kernel<R>, t: Tid, c: u32, u: Tid)
 
 /// Wakes all waiters of a condition, by POSIX.1 pthread_cond_broadcast.
 pub(crate) fn cond_broadcast<R: Ready + Drop>(k: &mut Kernel<R>, t: Tid, c: Arguments) -> Reply
-    requires { CanBegin R.order k.old t }
+    requires { CanNote R.order k.old t }
     ensures noted { HasNotedSome R.order k.old k.new (rows.cond_broadcast (view R.order k.old.tables) t c).outcome }
     ensures reply { result ≡ (rows.cond_broadcast (view R.order k.old.tables) t c).reply }
 {
@@ -187,7 +187,7 @@ pub(crate) fn cond_broadcast<R: Ready + Drop>(k: &mut Kernel<R>, t: Tid, c: Argu
 
 /// Notes that all waiters of a condition are woken, those of greater priority first, and that the caller is answered.
 fn broadcast<R: Ready + Drop>(k: &mut Kernel<R>, t: Tid, c: u32)
-    requires ready { CanBegin R.order k.old t }
+    requires ready { CanNote R.order k.old t }
     requires exists { is_some ((view R.order k.old.tables).conditions c) ≡ true }
     ensures { (condition : Condition) → (view R.order k.old.tables).conditions c ≡ Some condition
         → HasNotedSome R.order k.old k.new (values (wake_all (begun (view R.order k.old.tables)) (in_order (eff (view R.order k.old.tables)) condition.waiters)) t 0 0).outcome }
@@ -217,7 +217,7 @@ fn cond_waiter<R: Ready + Drop>(k: &Kernel<R>, c: u32, number: u32) -> Tid
 
 /// Notes that all waiters of a condition are woken in this order. Each takes two small changes.
 fn wake_each<R: Ready + Drop>(k: &mut Kernel<R>, t: Tid, c: u32, m: u32, wake_order: &[u32])
-    requires ready { CanBegin R.order k.old t }
+    requires ready { CanNote R.order k.old t }
     requires all { wake_order.now ≡ in_order (eff (view R.order k.old.tables)) (cond_waiters ((view R.order k.old.tables).conditions c)) }
     requires bound { cond_mutex ((view R.order k.old.tables).conditions c) ≡ Some m }
     ensures noted { HasNoted R.order k.old k.new (wake_all (begun (view R.order k.old.tables)) wake_order.now) }

@@ -3,15 +3,15 @@ ghost use Rattle.thread_base.specs.Holders.{is_held_by, is_free, count_of};
 ghost use Rattle.thread_base.specs.Objects.{free_mutex, holder_in, waiters_in};
 ghost use Rattle.posix_model.specs.State.{Mutex};
 ghost use Rattle.posix_model.specs.Changes.{begun};
-ghost use Rattle.posix_model.specs.Mutexes.{most_locks, set_mutex, hand, best_waiter};
+ghost use Rattle.posix_model.specs.Mutexes.{most_locks, set_mutex, hand_off, best_waiter};
 ghost use Rattle.posix_model.specs.MutexCalls as rows;
-ghost use Rattle.posix_model.specs.MutexCalls.{cannot_init, kind_by, checks, counts};
+ghost use Rattle.posix_model.specs.MutexCalls.{cannot_init, kind_by, is_error_checking, is_recursive};
 ghost use Rattle.posix_model.specs.Replies.{values};
-ghost use Rattle.kernel_state.specs.View.{view, seen};
-ghost use Rattle.kernel_state.specs.Begun.{CanBegin, HasNotedSome};
+ghost use Rattle.kernel_state.specs.View.{view, mutex_of};
+ghost use Rattle.kernel_state.specs.Begun.{CanNote, HasNotedSome};
 
 use kernel_state::{Change, Kernel, MutexChange, ThreadChange};
-use mutex_table::Look;
+use mutex_table::MutexState;
 use posix_model::{Arguments, Reply, Wait};
 use ready_queues::Ready;
 use thread_base::{Errno, Holder, Kind, Protocol, Tid};
@@ -41,31 +41,31 @@ fn kind_by(word: u32) -> Kind
 }
 
 /// Whether a thread has a mutex of the kind that answers an error where its owner locks it again.
-fn is_checked(look: &Look, t: Tid) -> bool
-    ensures { result ≡ (checks look.now.kind && is_held_by look.now.holder t) }
+fn is_checked(mutex: &MutexState, t: Tid) -> bool
+    ensures { result ≡ (is_error_checking mutex.now.kind && is_held_by mutex.now.holder t) }
 {
-    matches!(look.kind, Kind::ErrorCheck) && look.holder.is_held_by(t)
+    matches!(mutex.kind, Kind::ErrorCheck) && mutex.holder.is_held_by(t)
 }
 
 /// Whether a thread has a mutex of the kind that counts where its owner locks it again.
-fn is_counted(look: &Look, t: Tid) -> bool
-    ensures { result ≡ (counts look.now.kind && is_held_by look.now.holder t) }
+fn is_counted(mutex: &MutexState, t: Tid) -> bool
+    ensures { result ≡ (is_recursive mutex.now.kind && is_held_by mutex.now.holder t) }
 {
-    matches!(look.kind, Kind::Recursive) && look.holder.is_held_by(t)
+    matches!(mutex.kind, Kind::Recursive) && mutex.holder.is_held_by(t)
 }
 
 /// Whether a thread has a mutex that counts, and it cannot count further.
-fn is_full(look: &Look, t: Tid) -> bool
-    ensures { result ≡ (counts look.now.kind && is_held_by look.now.holder t && count_of look.now.holder == most_locks) }
+fn is_full(mutex: &MutexState, t: Tid) -> bool
+    ensures { result ≡ (is_recursive mutex.now.kind && is_held_by mutex.now.holder t && count_of mutex.now.holder == most_locks) }
 {
-    is_counted(look, t) && look.holder.count() == MOST_LOCKS
+    is_counted(mutex, t) && mutex.holder.count() == MOST_LOCKS
 }
 
 /// Whether a thread has a mutex without a wait where it locks it.
-fn is_open(look: &Look, t: Tid) -> bool
-    ensures { result ≡ (is_free look.now.holder || counts look.now.kind && is_held_by look.now.holder t) }
+fn is_open(mutex: &MutexState, t: Tid) -> bool
+    ensures { result ≡ (is_free mutex.now.holder || is_recursive mutex.now.kind && is_held_by mutex.now.holder t) }
 {
-    look.holder.is_free() || is_counted(look, t)
+    mutex.holder.is_free() || is_counted(mutex, t)
 }
 
 /// The answer of a call that did what it was asked for and has no value.
@@ -77,7 +77,7 @@ pub(crate) fn answer(t: Tid) -> Change
 
 /// Notes that a mutex has another holder, and that the caller is answered.
 fn hold<R: Ready + Drop>(k: &mut Kernel<R>, t: Tid, m: u32, holder: Holder)
-    requires ready { CanBegin R.order k.old t }
+    requires ready { CanNote R.order k.old t }
     requires exists { IsSome ((view R.order k.old.tables).mutexes m) }
     ensures { (mutex : Mutex) → (view R.order k.old.tables).mutexes m ≡ Some mutex
         → HasNotedSome R.order k.old k.new (values (begun (set_mutex (view R.order k.old.tables) m (Some (record mutex { holder = holder })))) t 0 0).outcome }
@@ -88,7 +88,7 @@ fn hold<R: Ready + Drop>(k: &mut Kernel<R>, t: Tid, m: u32, holder: Holder)
 
 /// Notes that the caller has locked a mutex once more that it had so often.
 fn take<R: Ready + Drop>(k: &mut Kernel<R>, t: Tid, m: u32, count: u32)
-    requires ready { CanBegin R.order k.old t }
+    requires ready { CanNote R.order k.old t }
     requires exists { IsSome ((view R.order k.old.tables).mutexes m) }
     requires count { count ≡ count_of (holder_in ((view R.order k.old.tables).mutexes m)) }
     ensures { (mutex : Mutex) → (view R.order k.old.tables).mutexes m ≡ Some mutex
@@ -105,9 +105,9 @@ fn take<R: Ready + Drop>(k: &mut Kernel<R>, t: Tid, m: u32, count: u32)
     );
 }
 
-/// Notes that the caller waits for a mutex, behind the others.
+/// Notes that the caller waits for a mutex, after the others.
 fn queue<R: Ready + Drop>(k: &mut Kernel<R>, t: Tid, m: u32)
-    requires ready { CanBegin R.order k.old t }
+    requires ready { CanNote R.order k.old t }
     requires exists { IsSome ((view R.order k.old.tables).mutexes m) }
     ensures { (mutex : Mutex) → (view R.order k.old.tables).mutexes m ≡ Some mutex
         → HasNotedSome R.order k.old k.new (rows.queue (view R.order k.old.tables) t m mutex).outcome }
@@ -128,7 +128,7 @@ fn queue<R: Ready + Drop>(k: &mut Kernel<R>, t: Tid, m: u32)
 
 /// Notes a new mutex, which is free.
 fn make<R: Ready + Drop>(k: &mut Kernel<R>, t: Tid, m: u32, kind: Kind)
-    requires ready { CanBegin R.order k.old t }
+    requires ready { CanNote R.order k.old t }
     requires limit { m < 256 }
     requires fresh { IsNone ((view R.order k.old.tables).mutexes m) }
     ensures { HasNotedSome R.order k.old k.new (values (begun (set_mutex (view R.order k.old.tables) m (Some (free_mutex kind Protocol.Plain)))) t 0 0).outcome }
@@ -140,7 +140,7 @@ fn make<R: Ready + Drop>(k: &mut Kernel<R>, t: Tid, m: u32, kind: Kind)
 
 /// Makes a mutex, by POSIX.1 pthread_mutex_init.
 pub(crate) fn init<R: Ready + Drop>(k: &mut Kernel<R>, t: Tid, c: Arguments) -> Reply
-    requires { CanBegin R.order k.old t }
+    requires { CanNote R.order k.old t }
     ensures noted { HasNotedSome R.order k.old k.new (rows.mutex_init (view R.order k.old.tables) t c).outcome }
     ensures reply { result ≡ (rows.mutex_init (view R.order k.old.tables) t c).reply }
 {
@@ -158,24 +158,24 @@ pub(crate) fn init<R: Ready + Drop>(k: &mut Kernel<R>, t: Tid, c: Arguments) -> 
 
 /// Takes a free mutex away that no waiter of a condition uses, by POSIX.1 pthread_mutex_destroy.
 pub(crate) fn destroy<R: Ready + Drop>(k: &mut Kernel<R>, t: Tid, c: Arguments) -> Reply
-    requires { CanBegin R.order k.old t }
+    requires { CanNote R.order k.old t }
     ensures noted { HasNotedSome R.order k.old k.new (rows.mutex_destroy (view R.order k.old.tables) t c).outcome }
     ensures reply { result ≡ (rows.mutex_destroy (view R.order k.old.tables) t c).reply }
 {
     match k.tables().mutex(c.a0) {
         None => k.refuse(t, Errno::EINVAL),
-        Some(look) => destroy_mutex(k, t, c.a0, look),
+        Some(mutex) => destroy_mutex(k, t, c.a0, mutex),
     }
 }
 
 /// Takes a mutex away, where it is free and no waiter of a condition uses it.
-fn destroy_mutex<R: Ready + Drop>(k: &mut Kernel<R>, t: Tid, m: u32, look: Look) -> Reply
-    requires ready { CanBegin R.order k.old t }
-    requires found { (view R.order k.old.tables).mutexes m ≡ Some (seen look (waiters_in ((view R.order k.old.tables).mutexes m))) }
-    ensures noted { HasNotedSome R.order k.old k.new (rows.destroy_of (view R.order k.old.tables) t m (Some (seen look (waiters_in ((view R.order k.old.tables).mutexes m))))).outcome }
-    ensures reply { result ≡ (rows.destroy_of (view R.order k.old.tables) t m (Some (seen look (waiters_in ((view R.order k.old.tables).mutexes m))))).reply }
+fn destroy_mutex<R: Ready + Drop>(k: &mut Kernel<R>, t: Tid, m: u32, mutex: MutexState) -> Reply
+    requires ready { CanNote R.order k.old t }
+    requires found { (view R.order k.old.tables).mutexes m ≡ Some (mutex_of mutex (waiters_in ((view R.order k.old.tables).mutexes m))) }
+    ensures noted { HasNotedSome R.order k.old k.new (rows.destroy_of (view R.order k.old.tables) t m (Some (mutex_of mutex (waiters_in ((view R.order k.old.tables).mutexes m))))).outcome }
+    ensures reply { result ≡ (rows.destroy_of (view R.order k.old.tables) t m (Some (mutex_of mutex (waiters_in ((view R.order k.old.tables).mutexes m))))).reply }
 {
-    if !look.holder.is_free() || k.tables().is_used(m) {
+    if !mutex.holder.is_free() || k.tables().is_used(m) {
         return k.refuse(t, Errno::EBUSY);
     }
     let change = MutexChange::Destroy;
@@ -185,31 +185,31 @@ fn destroy_mutex<R: Ready + Drop>(k: &mut Kernel<R>, t: Tid, m: u32, look: Look)
 
 /// Locks a mutex, or waits for it, by POSIX.1 pthread_mutex_lock.
 pub(crate) fn lock<R: Ready + Drop>(k: &mut Kernel<R>, t: Tid, c: Arguments) -> Reply
-    requires { CanBegin R.order k.old t }
+    requires { CanNote R.order k.old t }
     ensures noted { HasNotedSome R.order k.old k.new (rows.lock (view R.order k.old.tables) t c).outcome }
     ensures reply { result ≡ (rows.lock (view R.order k.old.tables) t c).reply }
 {
     match k.tables().mutex(c.a0) {
         None => k.refuse(t, Errno::EINVAL),
-        Some(look) => lock_mutex(k, t, c.a0, look),
+        Some(mutex) => lock_mutex(k, t, c.a0, mutex),
     }
 }
 
 /// Locks a mutex that is there, or waits for it.
-fn lock_mutex<R: Ready + Drop>(k: &mut Kernel<R>, t: Tid, m: u32, look: Look) -> Reply
-    requires ready { CanBegin R.order k.old t }
-    requires found { (view R.order k.old.tables).mutexes m ≡ Some (seen look (waiters_in ((view R.order k.old.tables).mutexes m))) }
-    ensures noted { HasNotedSome R.order k.old k.new (rows.lock_of (view R.order k.old.tables) t m (Some (seen look (waiters_in ((view R.order k.old.tables).mutexes m))))).outcome }
-    ensures reply { result ≡ (rows.lock_of (view R.order k.old.tables) t m (Some (seen look (waiters_in ((view R.order k.old.tables).mutexes m))))).reply }
+fn lock_mutex<R: Ready + Drop>(k: &mut Kernel<R>, t: Tid, m: u32, mutex: MutexState) -> Reply
+    requires ready { CanNote R.order k.old t }
+    requires found { (view R.order k.old.tables).mutexes m ≡ Some (mutex_of mutex (waiters_in ((view R.order k.old.tables).mutexes m))) }
+    ensures noted { HasNotedSome R.order k.old k.new (rows.lock_of (view R.order k.old.tables) t m (Some (mutex_of mutex (waiters_in ((view R.order k.old.tables).mutexes m))))).outcome }
+    ensures reply { result ≡ (rows.lock_of (view R.order k.old.tables) t m (Some (mutex_of mutex (waiters_in ((view R.order k.old.tables).mutexes m))))).reply }
 {
-    if is_checked(&look, t) {
+    if is_checked(&mutex, t) {
         return k.refuse(t, Errno::EDEADLK);
     }
-    if is_full(&look, t) {
+    if is_full(&mutex, t) {
         return k.refuse(t, Errno::EAGAIN);
     }
-    if is_open(&look, t) {
-        take(k, t, m, look.holder.count());
+    if is_open(&mutex, t) {
+        take(k, t, m, mutex.holder.count());
         return Reply::Values(0, 0);
     }
     queue(k, t, m);
@@ -218,70 +218,70 @@ fn lock_mutex<R: Ready + Drop>(k: &mut Kernel<R>, t: Tid, m: u32, look: Look) ->
 
 /// Locks a mutex where nobody has to wait, by POSIX.1 pthread_mutex_trylock.
 pub(crate) fn trylock<R: Ready + Drop>(k: &mut Kernel<R>, t: Tid, c: Arguments) -> Reply
-    requires { CanBegin R.order k.old t }
+    requires { CanNote R.order k.old t }
     ensures noted { HasNotedSome R.order k.old k.new (rows.trylock (view R.order k.old.tables) t c).outcome }
     ensures reply { result ≡ (rows.trylock (view R.order k.old.tables) t c).reply }
 {
     match k.tables().mutex(c.a0) {
         None => k.refuse(t, Errno::EINVAL),
-        Some(look) => trylock_mutex(k, t, c.a0, look),
+        Some(mutex) => trylock_mutex(k, t, c.a0, mutex),
     }
 }
 
 /// Locks a mutex that is there, where nobody has to wait.
-fn trylock_mutex<R: Ready + Drop>(k: &mut Kernel<R>, t: Tid, m: u32, look: Look) -> Reply
-    requires ready { CanBegin R.order k.old t }
-    requires found { (view R.order k.old.tables).mutexes m ≡ Some (seen look (waiters_in ((view R.order k.old.tables).mutexes m))) }
-    ensures noted { HasNotedSome R.order k.old k.new (rows.trylock_of (view R.order k.old.tables) t m (Some (seen look (waiters_in ((view R.order k.old.tables).mutexes m))))).outcome }
-    ensures reply { result ≡ (rows.trylock_of (view R.order k.old.tables) t m (Some (seen look (waiters_in ((view R.order k.old.tables).mutexes m))))).reply }
+fn trylock_mutex<R: Ready + Drop>(k: &mut Kernel<R>, t: Tid, m: u32, mutex: MutexState) -> Reply
+    requires ready { CanNote R.order k.old t }
+    requires found { (view R.order k.old.tables).mutexes m ≡ Some (mutex_of mutex (waiters_in ((view R.order k.old.tables).mutexes m))) }
+    ensures noted { HasNotedSome R.order k.old k.new (rows.trylock_of (view R.order k.old.tables) t m (Some (mutex_of mutex (waiters_in ((view R.order k.old.tables).mutexes m))))).outcome }
+    ensures reply { result ≡ (rows.trylock_of (view R.order k.old.tables) t m (Some (mutex_of mutex (waiters_in ((view R.order k.old.tables).mutexes m))))).reply }
 {
-    if is_full(&look, t) {
+    if is_full(&mutex, t) {
         return k.refuse(t, Errno::EAGAIN);
     }
-    if !is_open(&look, t) {
+    if !is_open(&mutex, t) {
         return k.refuse(t, Errno::EBUSY);
     }
-    take(k, t, m, look.holder.count());
+    take(k, t, m, mutex.holder.count());
     Reply::Values(0, 0)
 }
 
 /// Unlocks a mutex that the caller has, by POSIX.1 pthread_mutex_unlock.
 pub(crate) fn unlock<R: Ready + Drop>(k: &mut Kernel<R>, t: Tid, c: Arguments) -> Reply
-    requires { CanBegin R.order k.old t }
+    requires { CanNote R.order k.old t }
     ensures noted { HasNotedSome R.order k.old k.new (rows.unlock (view R.order k.old.tables) t c).outcome }
     ensures reply { result ≡ (rows.unlock (view R.order k.old.tables) t c).reply }
 {
     match k.tables().mutex(c.a0) {
         None => k.refuse(t, Errno::EINVAL),
-        Some(look) => unlock_mutex(k, t, c.a0, look),
+        Some(mutex) => unlock_mutex(k, t, c.a0, mutex),
     }
 }
 
 /// Unlocks a mutex that is there.
-fn unlock_mutex<R: Ready + Drop>(k: &mut Kernel<R>, t: Tid, m: u32, look: Look) -> Reply
-    requires ready { CanBegin R.order k.old t }
-    requires found { (view R.order k.old.tables).mutexes m ≡ Some (seen look (waiters_in ((view R.order k.old.tables).mutexes m))) }
-    ensures noted { HasNotedSome R.order k.old k.new (rows.unlock_of (view R.order k.old.tables) t m (Some (seen look (waiters_in ((view R.order k.old.tables).mutexes m))))).outcome }
-    ensures reply { result ≡ (rows.unlock_of (view R.order k.old.tables) t m (Some (seen look (waiters_in ((view R.order k.old.tables).mutexes m))))).reply }
+fn unlock_mutex<R: Ready + Drop>(k: &mut Kernel<R>, t: Tid, m: u32, mutex: MutexState) -> Reply
+    requires ready { CanNote R.order k.old t }
+    requires found { (view R.order k.old.tables).mutexes m ≡ Some (mutex_of mutex (waiters_in ((view R.order k.old.tables).mutexes m))) }
+    ensures noted { HasNotedSome R.order k.old k.new (rows.unlock_of (view R.order k.old.tables) t m (Some (mutex_of mutex (waiters_in ((view R.order k.old.tables).mutexes m))))).outcome }
+    ensures reply { result ≡ (rows.unlock_of (view R.order k.old.tables) t m (Some (mutex_of mutex (waiters_in ((view R.order k.old.tables).mutexes m))))).reply }
 {
-    if !look.holder.is_held_by(t) {
+    if !mutex.holder.is_held_by(t) {
         return k.refuse(t, Errno::EPERM);
     }
-    release(k, t, m, look.holder.count());
+    release(k, t, m, mutex.holder.count());
     Reply::Values(0, 0)
 }
 
 /// Notes that the caller has locked a mutex once less that it had so often; with the last lock the mutex is handed
 /// over.
 fn release<R: Ready + Drop>(k: &mut Kernel<R>, t: Tid, m: u32, count: u32)
-    requires ready { CanBegin R.order k.old t }
+    requires ready { CanNote R.order k.old t }
     requires count { count ≡ count_of (holder_in ((view R.order k.old.tables).mutexes m)) }
     requires held { is_held_by (holder_in ((view R.order k.old.tables).mutexes m)) t ≡ true }
     ensures { (mutex : Mutex) → (view R.order k.old.tables).mutexes m ≡ Some mutex
         → HasNotedSome R.order k.old k.new (values (rows.released (view R.order k.old.tables) t m mutex) t 0 0).outcome }
 {
     if count == 1 {
-        hand_and_answer(k, t, m);
+        hand_off_and_answer(k, t, m);
     } else {
         hold(
             k,
@@ -296,12 +296,12 @@ fn release<R: Ready + Drop>(k: &mut Kernel<R>, t: Tid, m: u32, count: u32)
 }
 
 /// Notes that a mutex goes to its best waiter, or is free, and that the caller is answered.
-fn hand_and_answer<R: Ready + Drop>(k: &mut Kernel<R>, t: Tid, m: u32)
-    requires ready { CanBegin R.order k.old t }
+fn hand_off_and_answer<R: Ready + Drop>(k: &mut Kernel<R>, t: Tid, m: u32)
+    requires ready { CanNote R.order k.old t }
     requires exists { IsSome ((view R.order k.old.tables).mutexes m) }
     ensures { (mutex : Mutex) → (view R.order k.old.tables).mutexes m ≡ Some mutex
-        → HasNotedSome R.order k.old k.new (values (hand (begun (view R.order k.old.tables)) m mutex (best_waiter (view R.order k.old.tables) mutex)) t 0 0).outcome }
+        → HasNotedSome R.order k.old k.new (values (hand_off (begun (view R.order k.old.tables)) m mutex (best_waiter (view R.order k.old.tables) mutex)) t 0 0).outcome }
 {
-    k.hand_over(m);
+    k.hand_off(m);
     k.note_more(answer(t));
 }

@@ -42,9 +42,6 @@ fn call<R: Ready + Drop>(
         return Ok((None, 0));
     };
     begin(&mut k, Tid::at(0), number, args);
-    if k.is_idle() {
-        return Ok((None, 0));
-    }
     match step(&mut k) {
         Stepped::More => Ok((reply_of(&k.finish()), 2)),
         Stepped::Exit(report) => Ok((reply_of(&report), 1)),

@@ -15,9 +15,9 @@ use Rattle.kernel_state.specs.declared.change.Change.TheVariants.{Thread as OfTh
 use Rattle.kernel_state.specs.declared.change.ThreadChange.TheVariants.{Answer, End}
 use Rattle.calls_thread.specs.Orphans.{with_orphans}
 use Rattle.calls_thread.proofs.StayLemmas.{there_append, ended_apart}
-use Rattle.calls_thread.proofs.OrphanLemmas.{none_left, orphaned_twice}
+use Rattle.calls_thread.proofs.OrphanLemmas.{none_remaining, orphaned_twice}
 
--- an end behind the orphans is the end
+-- an end after the orphans is the end
 ended_orphans : (g : Outcome) (t : ℕ) (left : Thread) (dropped : ℕ → ℕ) (value : ℕ)
     → ended (record g { state = with_orphans g.state t }) t left dropped value ≡ ended g t left dropped value
 ended_orphans g t left dropped value = λ i. record {
@@ -30,7 +30,7 @@ module _ (s : State) (t value : ℕ) where
   ended_alone none = ended_orphans (begun s) t (remains (s.threads t) value None) (s.pending t) value ∙ ap (end_with s t value) (sym none)
 
   pub can_end_alone : IsListed s t → s.pending ≡ none_pending → Can (OfThread t (End value false)) (begun (with_orphans s t))
-  can_end_alone listed calm = (listed, calm, none_left s t)
+  can_end_alone listed calm = (listed, calm, none_remaining s t)
 
 module _ (s : State) (t u value : ℕ) (good : IsGood s) (listed : IsListed s t) (found : joiner s t ≡ Some u) where
   joins_it : joins t (s.threads u).standing ≡ true
@@ -52,7 +52,7 @@ module _ (s : State) (t u value : ℕ) (good : IsGood s) (listed : IsListed s t)
       ap (λ (x : Thread). is_ready x.standing) (put_other s.threads u _ t apart) ∙ listed.2,
     ),
     calm,
-    none_left s t,
+    none_remaining s t,
   )
 
   pub ended_joined : change_by (OfThread t (End value true)) (change_by (OfThread u (Answer 0 value)) (begun (with_orphans s t))) ≡ end_of_thread s t value

@@ -14,11 +14,11 @@ use Rattle.posix_model.specs.Mutexes.{orphan_in, orphaned}
 use Rattle.thread_base.specs.Objects.{holder_in, with_holder}
 use Rattle.kernel_state.specs.View.{view}
 use Rattle.kernel_state.specs.Changing.{Can, HasNoMutex}
-use Rattle.kernel_state.specs.Begun.{CanBegin, HasNoted, NotesMore}
+use Rattle.kernel_state.specs.Begun.{CanNote, HasNoted, NotesMore}
 use Rattle.kernel_state.specs.declared.change.Change.{Change}
 use Rattle.kernel_state.specs.declared.change.Change.TheVariants.{Mutex as OfMutex}
 use Rattle.kernel_state.specs.declared.change.MutexChange.TheVariants.{Hold}
-use Rattle.kernel_state.specs.declared.kernel.Kernel.{Kernel}
+use Rattle.kernel_state.specs.Kernels.{KernelState}
 use Rattle.kernel_state.specs.declared.tables.Tables.{Tables}
 use Rattle.kernel_state.proofs.NoteLemmas.{noted_none as noted_first}
 use Rattle.calls_thread.specs.Orphans.{with_orphans}
@@ -45,8 +45,8 @@ orphan_gone t (Some mutex) = by (is_held_by mutex.holder t) refl
     by false h = h
 
 -- then the thread has none, and its end changes no mutex more
-pub none_left : (s : State) (t : ℕ) → HasNoMutex (with_orphans s t) t
-none_left s t m = orphan_gone t (s.mutexes m)
+pub none_remaining : (s : State) (t : ℕ) → HasNoMutex (with_orphans s t) t
+none_remaining s t m = orphan_gone t (s.mutexes m)
 
 pub orphaned_twice : (t : ℕ) (mutexes : ℕ → Option Mutex) → orphaned t (orphaned t mutexes) ≡ orphaned t mutexes
 orphaned_twice t mutexes = λ i m. orphan_free t (orphan_in t (mutexes m)) (orphan_gone t (mutexes m)) i
@@ -57,7 +57,7 @@ pub record AreBelow (s : State) (t from : ℕ) (mutexes : ℕ → Option Mutex) 
   pub left : (m : ℕ) → from ≤ m → mutexes m ≡ s.mutexes m
 
 -- that the mutexes below a number are orphans was noted
-abbrev pub HasNotedBelow : {R : Type 0} → (R → List ℕ) → Kernel R → Kernel R → ℕ → ℕ → Type 0
+abbrev pub HasNotedBelow : {R : Type 0} → (R → List ℕ) → KernelState R → KernelState R → ℕ → ℕ → Type 0
 HasNotedBelow order k q t from =
     (mutexes : ℕ → Option Mutex) × AreBelow (view order k.tables) t from mutexes × HasNoted order k q (begun (record (view order k.tables) { mutexes = mutexes }))
     × (from ≤ 256) × (length q.rest.noted.items ≤ from)
@@ -100,10 +100,10 @@ module _ (s : State) (t from m : ℕ) (least : from ≤ 256) (found : find (λ k
     can_orphan : Can (OfMutex m (Hold Orphan)) (begun (record s { mutexes = mutexes }))
     can_orphan = ap is_some (below.left m owned_within.0) ∙ held_some t (s.mutexes m) owned
 
-module _ {R : Type 0} (order : R → List ℕ) (k : Kernel R) (t : ℕ) where
-  pub noted_none : CanBegin order k t → HasNotedBelow order k k t 0
+module _ {R : Type 0} (order : R → List ℕ) (k : KernelState R) (t : ℕ) where
+  pub noted_none : CanNote order k t → HasNotedBelow order k k t 0
   noted_none ready =
-      let none : length k.rest.noted.items ≡ 0 = ap (length {A = Change}) ready.idle.none in (
+      let none : length k.rest.noted.items ≡ 0 = ap (length {A = Change}) ready.idle.rest.none in (
         (view order k.tables).mutexes,
         record { done = λ m low. absurd (omega (arith, low)); left = λ m high. refl },
         noted_first order k ready.idle ready.untold,
@@ -111,9 +111,9 @@ module _ {R : Type 0} (order : R → List ℕ) (k : Kernel R) (t : ℕ) where
         omega (arith, none),
       )
 
-  module _ (tables : Tables R) (q : Kernel R) (from : ℕ) (o : Option ℕ) (before : HasNotedBelow order k q t from) (same : tables ≡ q.tables) where
+  module _ (tables : Tables R) (q : KernelState R) (from : ℕ) (o : Option ℕ) (before : HasNotedBelow order k q t from) (same : tables ≡ q.tables) where
     stays : tables ≡ k.tables
-    stays = same ∙ ap (λ (x : Kernel _). x.tables) before.2.others
+    stays = same ∙ ap (λ (x : KernelState _). x.tables) before.2.others
 
     module _ (m : ℕ) (least : o ≡ find (λ n. is_held_by (holder_in ((view order tables).mutexes n)) t) (range_with_len from (256 - from))) (is : o ≡ Some m) where
       pub found_still : find (λ n. is_held_by (holder_in ((view order k.tables).mutexes n)) t) (range_with_len from (256 - from)) ≡ Some m
@@ -129,7 +129,7 @@ module _ {R : Type 0} (order : R → List ℕ) (k : Kernel R) (t : ℕ) where
         λ m high. ap (λ (x : Tables _). is_held_by (holder_in ((view order x).mutexes m)) t) (sym stays) ∙ left m high
 
   -- one mutex more
-  pub noted_below : (q r : Kernel R) (from m : ℕ) → HasNotedBelow order k q t from
+  pub noted_below : (q r : KernelState R) (from m : ℕ) → HasNotedBelow order k q t from
       → find (λ n. is_held_by (holder_in ((view order k.tables).mutexes n)) t) (range_with_len from (256 - from)) ≡ Some m
       → NotesMore order q r (OfMutex m (Hold Orphan)) → length r.rest.noted.items ≡ length q.rest.noted.items + 1 → HasNotedBelow order k r t (m + 1)
   noted_below q r from m before found more count =
@@ -147,7 +147,7 @@ module _ {R : Type 0} (order : R → List ℕ) (k : Kernel R) (t : ℕ) where
       )
 
   -- and then none is left
-  pub noted_all : (q : Kernel R) (from : ℕ) → HasNotedBelow order k q t from → ((m : ℕ) → from ≤ m → is_held_by (holder_in ((view order k.tables).mutexes m)) t ≡ false)
+  pub noted_all : (q : KernelState R) (from : ℕ) → HasNotedBelow order k q t from → ((m : ℕ) → from ≤ m → is_held_by (holder_in ((view order k.tables).mutexes m)) t ≡ false)
       → HasNoted order k q (begun (with_orphans (view order k.tables) t))
   noted_all q from before none =
       let s = view order k.tables in

@@ -4,7 +4,7 @@ ghost use Rattle.posix_model.specs.Deliveries.{faulted};
 ghost use Rattle.posix_model.specs.Instructions.{returned};
 ghost use Rattle.posix_model.specs.Leaving.{end_of_thread, start_exit};
 ghost use Rattle.kernel_state.specs.View.{view};
-ghost use Rattle.kernel_state.specs.Begun.{CanBegin, HasNoted, HasNotedSome, IsBegun};
+ghost use Rattle.kernel_state.specs.Begun.{CanBegin, CanNote, HasNoted, HasNotedSome, IsBegun};
 ghost use Rattle.calls_thread.specs.Orphans.{with_orphans};
 
 use kernel_state::{Change, Kernel, MutexChange, SignalChange, ThreadChange};
@@ -16,11 +16,12 @@ use thread_base::{Holder, Sig, Tid};
 /// The signal of a special return that is not due.
 const SIGSEGV: u32 = 11;
 
-/// Begins a fault of a thread that is ready: its signal pends from now on.
+/// Begins a fault of the chosen thread: its signal pends from now on.
 pub fn begin_fault<R: Ready + Drop>(k: &mut Kernel<R>, t: Tid, s: Sig)
     requires { CanBegin R.order k.old t }
     ensures { IsBegun R.order k.old k.new (faulted (view R.order k.old.tables) t s) }
 {
+    let _sound = k.tables();
     k.note_one(
         t,
         Change::Signal {
@@ -29,7 +30,7 @@ pub fn begin_fault<R: Ready + Drop>(k: &mut Kernel<R>, t: Tid, s: Sig)
             change: SignalChange::Pend,
         },
     );
-    k.note_head(t, Head::Fault(s));
+    k.begin_move(t, Head::Fault(s));
 }
 
 /// A mutex is an orphan; its waiters stay.
@@ -55,7 +56,7 @@ fn ended(t: Tid, value: u32, joined: bool) -> Change
 
 /// Notes that each mutex that a thread has is an orphan; these are 256 small changes at most.
 fn note_orphans<R: Ready + Drop>(k: &mut Kernel<R>, t: Tid)
-    requires { CanBegin R.order k.old t }
+    requires { CanNote R.order k.old t }
     ensures noted { HasNoted R.order k.old k.new (begun (with_orphans (view R.order k.old.tables) t)) }
     ensures count { length k.new.rest.noted.items ≤ 256 }
 {
@@ -68,7 +69,7 @@ fn note_orphans<R: Ready + Drop>(k: &mut Kernel<R>, t: Tid)
 
 /// Notes the end of a thread: its mutexes are orphans, its joiner is answered, and then it is gone.
 fn note_end<R: Ready + Drop>(k: &mut Kernel<R>, t: Tid, value: u32)
-    requires { CanBegin R.order k.old t }
+    requires { CanNote R.order k.old t }
     ensures { HasNotedSome R.order k.old k.new (end_of_thread (view R.order k.old.tables) t value) }
 {
     let joiner = k.tables().joiner(t);
@@ -85,7 +86,7 @@ fn note_end<R: Ready + Drop>(k: &mut Kernel<R>, t: Tid, value: u32)
 
 /// Notes the start of a thread's exit with the value in a0.
 fn note_exit<R: Ready + Drop>(k: &mut Kernel<R>, t: Tid)
-    requires { CanBegin R.order k.old t }
+    requires { CanNote R.order k.old t }
     ensures { HasNotedSome R.order k.old k.new (begun (start_exit (view R.order k.old.tables) t (slice_index ((view R.order k.old.tables).threads t).registers.x 10))) }
 {
     let value = k.tables().known(t).regs.x[10];
@@ -93,7 +94,7 @@ fn note_exit<R: Ready + Drop>(k: &mut Kernel<R>, t: Tid)
     k.note_one(t, Change::Thread { thread: t, change });
 }
 
-/// Begins a special return of a thread that is ready, or the fault with SIGSEGV where it is not due.
+/// Begins a special return of the chosen thread, or the fault with SIGSEGV where it is not due.
 pub fn begin_return<R: Ready + Drop>(k: &mut Kernel<R>, t: Tid, which: Special)
     requires { CanBegin R.order k.old t }
     ensures { IsBegun R.order k.old k.new (returned (view R.order k.old.tables) t which ((view R.order k.old.tables).threads t).phase) }
@@ -105,14 +106,14 @@ pub fn begin_return<R: Ready + Drop>(k: &mut Kernel<R>, t: Tid, which: Special)
             None => begin_fault(k, t, Sig::of(SIGSEGV)),
             Some(value) => {
                 note_end(k, t, value);
-                k.note_head(t, Head::Ret(Special::Cleanup));
+                k.begin_move(t, Head::Ret(Special::Cleanup));
             }
         },
         Special::Start => match leaving {
             Some(_) => begin_fault(k, t, Sig::of(SIGSEGV)),
             None => {
                 note_exit(k, t);
-                k.note_head(t, Head::Ret(Special::Start));
+                k.begin_move(t, Head::Ret(Special::Start));
             }
         },
     }

@@ -6,7 +6,7 @@ ghost use Rattle.posix_model.specs.Calls as calls;
 ghost use Rattle.posix_model.specs.Calls.{cannot_start, values, row_of, thread_calls};
 ghost use Rattle.posix_model.specs.Changes.{begun};
 ghost use Rattle.kernel_state.specs.View.{view};
-ghost use Rattle.kernel_state.specs.Begun.{CanBegin, HasNotedSome};
+ghost use Rattle.kernel_state.specs.Begun.{CanNote, HasNotedSome};
 
 use kernel_state::{Beginning, Change, Kernel, ThreadChange};
 use posix_model::{Arguments, Attributes, Ending, Reply, Wait};
@@ -16,7 +16,7 @@ use thread_table::Row;
 
 /// Tells the caller's number, by POSIX.1 pthread_self.
 pub(crate) fn self_number<R: Ready + Drop>(k: &mut Kernel<R>, t: Tid, c: Arguments) -> Reply
-    requires { CanBegin R.order k.old t }
+    requires { CanNote R.order k.old t }
     ensures noted { HasNotedSome R.order k.old k.new (calls.self_number (view R.order k.old.tables) t c).outcome }
     ensures reply { result ≡ (calls.self_number (view R.order k.old.tables) t c).reply }
 {
@@ -24,10 +24,10 @@ pub(crate) fn self_number<R: Ready + Drop>(k: &mut Kernel<R>, t: Tid, c: Argumen
     Reply::Values(0, t.number())
 }
 
-/// Puts the caller behind the others, by POSIX.1 sched_yield.
+/// Puts the caller after the others, by POSIX.1 sched_yield.
 #[tactic(auto, using(crate::proofs::StayLemmas::there_to_end))]
 pub(crate) fn yield_turn<R: Ready + Drop>(k: &mut Kernel<R>, t: Tid, c: Arguments) -> Reply
-    requires { CanBegin R.order k.old t }
+    requires { CanNote R.order k.old t }
     ensures noted { HasNotedSome R.order k.old k.new (calls.yield (view R.order k.old.tables) t c).outcome }
     ensures reply { result ≡ (calls.yield (view R.order k.old.tables) t c).reply }
 {
@@ -64,7 +64,7 @@ fn first_of(creator: Row, c: Arguments) -> Beginning
 
 /// Makes a new thread, by POSIX.1 pthread_create.
 pub(crate) fn create<R: Ready + Drop>(k: &mut Kernel<R>, t: Tid, c: Arguments) -> Reply
-    requires { CanBegin R.order k.old t }
+    requires { CanNote R.order k.old t }
     ensures noted { HasNotedSome R.order k.old k.new (calls.create (view R.order k.old.tables) t c).outcome }
     ensures reply { result ≡ (calls.create (view R.order k.old.tables) t c).reply }
 {
@@ -79,7 +79,7 @@ pub(crate) fn create<R: Ready + Drop>(k: &mut Kernel<R>, t: Tid, c: Arguments) -
 
 /// Starts the exit of the caller, by POSIX.1 pthread_exit.
 pub(crate) fn exit_thread<R: Ready + Drop>(k: &mut Kernel<R>, t: Tid, c: Arguments) -> Reply
-    requires { CanBegin R.order k.old t }
+    requires { CanNote R.order k.old t }
     ensures noted { HasNotedSome R.order k.old k.new (calls.exit_thread (view R.order k.old.tables) t c).outcome }
     ensures reply { result ≡ (calls.exit_thread (view R.order k.old.tables) t c).reply }
 {
@@ -90,7 +90,7 @@ pub(crate) fn exit_thread<R: Ready + Drop>(k: &mut Kernel<R>, t: Tid, c: Argumen
 
 /// Ends the process.
 pub(crate) fn exit<R: Ready + Drop>(k: &mut Kernel<R>, t: Tid, c: Arguments) -> Reply
-    requires { CanBegin R.order k.old t }
+    requires { CanNote R.order k.old t }
     ensures noted { HasNotedSome R.order k.old k.new (calls.exit (view R.order k.old.tables) t c).outcome }
     ensures reply { result ≡ (calls.exit (view R.order k.old.tables) t c).reply }
 {
@@ -106,7 +106,7 @@ pub(crate) fn exit<R: Ready + Drop>(k: &mut Kernel<R>, t: Tid, c: Arguments) -> 
 /// Makes a new thread of a number that is free.
 #[tactic(auto, using(crate::proofs::StayLemmas::there_append))]
 fn start<R: Ready + Drop>(k: &mut Kernel<R>, t: Tid, u: Tid, c: Arguments) -> Reply
-    requires ready { CanBegin R.order k.old t }
+    requires ready { CanNote R.order k.old t }
     requires free { free_number (view R.order k.old.tables) ≡ Some u }
     ensures noted { HasNotedSome R.order k.old k.new (calls.created (view R.order k.old.tables) t c (Some u)).outcome }
     ensures reply { result ≡ (calls.created (view R.order k.old.tables) t c (Some u)).reply }
@@ -125,7 +125,7 @@ fn start<R: Ready + Drop>(k: &mut Kernel<R>, t: Tid, u: Tid, c: Arguments) -> Re
 
 /// Waits for the end of a thread, or takes its value, by POSIX.1 pthread_join.
 pub(crate) fn join<R: Ready + Drop>(k: &mut Kernel<R>, t: Tid, c: Arguments) -> Reply
-    requires { CanBegin R.order k.old t }
+    requires { CanNote R.order k.old t }
     ensures noted { HasNotedSome R.order k.old k.new (calls.join (view R.order k.old.tables) t c).outcome }
     ensures reply { result ≡ (calls.join (view R.order k.old.tables) t c).reply }
 {
@@ -143,7 +143,7 @@ pub(crate) fn join<R: Ready + Drop>(k: &mut Kernel<R>, t: Tid, c: Arguments) -> 
 
 /// Joins a thread that may be joined.
 fn join_thread<R: Ready + Drop>(k: &mut Kernel<R>, t: Tid, u: Tid) -> Reply
-    requires ready { CanBegin R.order k.old t }
+    requires ready { CanNote R.order k.old t }
     requires there { exists (view R.order k.old.tables) u ≡ true }
     requires apart { u ≢ t }
     ensures noted { HasNotedSome R.order k.old k.new (calls.join_by (view R.order k.old.tables) t u ((view R.order k.old.tables).threads u).standing).outcome }
@@ -170,7 +170,7 @@ fn join_thread<R: Ready + Drop>(k: &mut Kernel<R>, t: Tid, u: Tid) -> Reply
 
 /// Detaches a thread, by POSIX.1 pthread_detach.
 pub(crate) fn detach<R: Ready + Drop>(k: &mut Kernel<R>, t: Tid, c: Arguments) -> Reply
-    requires { CanBegin R.order k.old t }
+    requires { CanNote R.order k.old t }
     ensures noted { HasNotedSome R.order k.old k.new (calls.detach (view R.order k.old.tables) t c).outcome }
     ensures reply { result ≡ (calls.detach (view R.order k.old.tables) t c).reply }
 {
@@ -185,7 +185,7 @@ pub(crate) fn detach<R: Ready + Drop>(k: &mut Kernel<R>, t: Tid, c: Arguments) -
 
 /// Detaches a thread that may be detached.
 fn detach_thread<R: Ready + Drop>(k: &mut Kernel<R>, t: Tid, u: Tid) -> Reply
-    requires ready { CanBegin R.order k.old t }
+    requires ready { CanNote R.order k.old t }
     requires there { exists (view R.order k.old.tables) u ≡ true }
     ensures noted { HasNotedSome R.order k.old k.new (values (begun (calls.detached_by (view R.order k.old.tables) u ((view R.order k.old.tables).threads u).standing)) t 0 0).outcome }
     ensures reply { result ≡ Reply.Values 0 0 }
@@ -204,7 +204,7 @@ fn detach_thread<R: Ready + Drop>(k: &mut Kernel<R>, t: Tid, u: Tid) -> Reply
 
 /// Makes the row of one of the calls of this crate; a number that it does not have answers ENOSYS.
 pub(crate) fn row<R: Ready + Drop>(k: &mut Kernel<R>, t: Tid, number: u32, c: Arguments) -> Reply
-    requires { CanBegin R.order k.old t }
+    requires { CanNote R.order k.old t }
     ensures noted { HasNotedSome R.order k.old k.new (row_of thread_calls number (view R.order k.old.tables) t c).outcome }
     ensures reply { result ≡ (row_of thread_calls number (view R.order k.old.tables) t c).reply }
 {

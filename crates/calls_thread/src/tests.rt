@@ -75,9 +75,6 @@ fn unknown<R: Ready + Drop>(alloc: Global, ready: R, number: u32) -> Result<Opti
         Some(_) => return Ok(None),
         None => begin_unknown(&mut k, Tid::at(0), number, [0; 4]),
     }
-    if k.is_idle() {
-        return Ok(None);
-    }
     match step(&mut k) {
         Stepped::More => Ok(None),
         Stepped::Exit(report) => Ok(reply_of(&report)),

@@ -19,10 +19,10 @@ returns-in-Some g c = λ condition here.
     let s : State = view order k.tables in
     let ready = c.requires.ready in
     let bound : cond_mutex (s.conditions c.args.c) ≡ Some c.in-Some.m =
-    sym (c.condition_mutex.ensures.mutex ∙ ap (λ (x : Tables _). cond_mutex ((view order x).conditions c.args.c)) c.tables.ensures) ∙ c.in-Some.is in
+    sym (c.condition_mutex.ensures.mutex ∙ ap (λ (x : Tables _). cond_mutex ((view order x).conditions c.args.c)) c.tables.ensures.tables) ∙ c.in-Some.is in
     let all : c.deref.result.now ≡ in_order (eff s) (cond_waiters (s.conditions c.args.c)) =
     c.deref.ensures.0 ∙ c.wake_order-wake_order.ensures
-    ∙ ap (λ (x : Tables _). in_order (eff (view order x)) (cond_waiters ((view order x).conditions c.args.c))) c.tables-in-Some.ensures in
+    ∙ ap (λ (x : Tables _). in_order (eff (view order x)) (cond_waiters ((view order x).conditions c.args.c))) c.tables-in-Some.ensures.tables in
     let woken : Outcome = wake_all (begun s) c.deref.result.now in
     let there = there_all s c.args.c c.in-Some.m ready.good bound c.deref.result.now all c.args.t ready.listed in
     let is : woken ≡ wake_all (begun s) (in_order (eff s) condition.waiters) = ap (wake_all (begun s)) (all ∙ ap (λ o. in_order (eff s) (cond_waiters o)) here) in

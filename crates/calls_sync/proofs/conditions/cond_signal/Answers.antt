@@ -12,6 +12,6 @@ returns-clause-noted g c =
     let order = g.R.Ready.order in
     let s : State = view order c.args.k.now.tables in
     let there : is_some (s.conditions c.args.c.a0) ≡ true =
-    sym (c.has_condition.ensures.member ∙ ap (λ (x : Tables _). is_some ((view order x).conditions c.args.c.a0)) c.tables.ensures) ∙ c.if-not-has_condition.false in
+    sym (c.has_condition.ensures.member ∙ ap (λ (x : Tables _). is_some ((view order x).conditions c.args.c.a0)) c.tables.ensures.tables) ∙ c.if-not-has_condition.false in
     let condition = a_condition (s.conditions c.args.c.a0) there in
     subst (λ (o : Option Condition). HasNotedSome order c.args.k.now c.signal.new.k (cond_signal_of s c.args.t o).outcome) (sym condition.1) (c.signal.ensures condition.0 condition.1)

@@ -2,7 +2,7 @@ use Rattle.std.proofs.Common.{◌≡◌, ◌∙◌, ap, sym, subst, true, Option
 use Rattle.posix_model.specs.State.{State, Mutex, Condition}
 use Rattle.posix_model.specs.ConditionCalls.{cond_wait_of}
 use Rattle.thread_base.specs.Objects.{waiters_in}
-use Rattle.kernel_state.specs.View.{view, mutex_by, seen}
+use Rattle.kernel_state.specs.View.{view, mutex_by, mutex_of}
 use Rattle.kernel_state.specs.Begun.{HasNotedSome}
 use Rattle.kernel_state.specs.declared.tables.Tables.{Tables}
 use Rattle.calls_sync.proofs.WakeLemmas.{a_condition}
@@ -16,10 +16,10 @@ returns-in-Some-clause-noted g c =
     let t = c.args.t in
     let m = c.args.c.a1 in
     let there : is_some (s.conditions c.args.c.a0) ≡ true =
-    sym (c.has_condition.ensures.member ∙ ap (λ (x : Tables _). is_some ((view order x).conditions c.args.c.a0)) c.tables.ensures) ∙ c.if-not-has_condition.false in
+    sym (c.has_condition.ensures.member ∙ ap (λ (x : Tables _). is_some ((view order x).conditions c.args.c.a0)) c.tables.ensures.tables) ∙ c.if-not-has_condition.false in
     let condition = a_condition (s.conditions c.args.c.a0) there in
-    let found : s.mutexes m ≡ Some (seen c.in-Some.look (waiters_in (s.mutexes m))) =
-    subst (λ (x : Tables _). (view order x).mutexes m ≡ mutex_by c.mutex.result (waiters_in ((view order x).mutexes m))) c.tables-2.ensures c.mutex.ensures.mutex
+    let found : s.mutexes m ≡ Some (mutex_of c.in-Some.mutex (waiters_in (s.mutexes m))) =
+    subst (λ (x : Tables _). (view order x).mutexes m ≡ mutex_by c.mutex.result (waiters_in ((view order x).mutexes m))) c.tables-2.ensures.tables c.mutex.ensures.mutex
     ∙ ap (λ o. mutex_by o (waiters_in (s.mutexes m))) c.in-Some.is in
     subst (λ (o : Option Condition). HasNotedSome order k c.wait_with.new.k (cond_wait_of s t c.args.c.a0 o m (s.mutexes m)).outcome) (sym condition.1)
     (subst (λ (o : Option Mutex). HasNotedSome order k c.wait_with.new.k (cond_wait_of s t c.args.c.a0 (Some condition.0) m o).outcome) (sym found)

@@ -3,7 +3,7 @@ use Rattle.posix_model.specs.State.{State}
 use Rattle.posix_model.specs.Good.{IsGood}
 use Rattle.posix_model.specs.Changes.{Outcome, begun}
 use Rattle.posix_model.specs.ConditionCalls.{await_condition}
-use Rattle.posix_model.specs.Mutexes.{best_waiter, hand}
+use Rattle.posix_model.specs.Mutexes.{best_waiter, hand_off}
 use Rattle.kernel_state.specs.View.{view}
 use Rattle.kernel_state.specs.Begun.{HasNoted, HasNotedSome}
 use Rattle.kernel_state.specs.declared.change.Change.{Change}
@@ -12,23 +12,16 @@ use Rattle.kernel_state.specs.Waking.{LeavesMutex}
 use Rattle.calls_sync.proofs.WaitLemmas.{entered, tables_entered, waits_so, leaves_at_wait}
 use Rattle.calls_sync.proofs.conditions.wait_and_release.Goals as goal
 
-pub hand_over-requires-clause-good : goal.hand_over-requires-clause-good
-hand_over-requires-clause-good g c =
-    let order = g.R.Ready.order in
-    let tables = tables_entered order c.args.k.now c.args.t c.args.c c.args.m c.args.count c.requires.ready c.requires.exists c.requires.same
-    c.note_more.new.self c.note_more.ensures.noted c.note_more-2.new.self c.note_more-2.ensures.noted in
-    subst (λ (x : Tables _). IsGood (view order x)) (sym tables) c.requires.ready.good
-
-pub hand_over-requires-clause-exists : goal.hand_over-requires-clause-exists
-hand_over-requires-clause-exists g c =
+pub hand_off-requires-clause-exists : goal.hand_off-requires-clause-exists
+hand_off-requires-clause-exists g c =
     let order = g.R.Ready.order in
     let tables = tables_entered order c.args.k.now c.args.t c.args.c c.args.m c.args.count c.requires.ready c.requires.exists c.requires.same
     c.note_more.new.self c.note_more.ensures.noted c.note_more-2.new.self c.note_more-2.ensures.noted in
     subst (λ (x : Tables _). is_some ((view order x).mutexes c.args.m) ≡ true) (sym tables) c.requires.there
 
-pub hand_over-requires-clause-room : goal.hand_over-requires-clause-room
-hand_over-requires-clause-room g c =
-    let none = ap (length {A = Change}) c.requires.ready.idle.none in
+pub hand_off-requires-clause-room : goal.hand_off-requires-clause-room
+hand_off-requires-clause-room g c =
+    let none = ap (length {A = Change}) c.requires.ready.idle.rest.none in
     let one = c.note_more.ensures.length in
     let two = c.note_more-2.ensures.length in
     omega (arith, none, one, two)
@@ -48,6 +41,6 @@ returns g c = λ condition mutex here there often.
     c.note_more.new.self c.note_more.ensures.noted c.note_more-2.new.self c.note_more-2.ensures.noted in
     let so_far = subst (λ (x : Outcome). HasNoted order k c.note_more-2.new.self x) (waits_so s t c.args.c m c.args.count condition mutex here often) noted in
     subst (λ (x : Tables _). (view order x).mutexes m ≡ Some mutex → LeavesMutex (view order x) waiting.state m
-    → HasNotedSome order k c.hand_over.new.self (hand waiting m mutex (best_waiter (view order x) mutex)))
-    tables (c.hand_over.ensures.noted k waiting mutex so_far) there
+    → HasNotedSome order k c.hand_off.new.self (hand_off waiting m mutex (best_waiter (view order x) mutex)))
+    tables (c.hand_off.ensures.noted k waiting mutex so_far) there
     (leaves_at_wait s t c.args.c m condition mutex ready.good ready.listed)

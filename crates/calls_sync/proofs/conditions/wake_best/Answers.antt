@@ -20,7 +20,7 @@ returns g c =
     let s : State = view order k.tables in
     let ready = c.requires.ready in
     let bound : cond_mutex (s.conditions c.args.c) ≡ Some c.in-Some.m =
-    sym (c.condition_mutex.ensures.mutex ∙ ap (λ (x : Tables _). cond_mutex ((view order x).conditions c.args.c)) c.tables.ensures) ∙ c.in-Some.is in
+    sym (c.condition_mutex.ensures.mutex ∙ ap (λ (x : Tables _). cond_mutex ((view order x).conditions c.args.c)) c.tables.ensures.tables) ∙ c.in-Some.is in
     let waiting_on = is_waiter_on s c.args.u c.args.c c.in-Some.m ready.good c.requires.waits bound in
     let woken : Outcome = wake (begun s) c.args.u (Answer 0) in
     let noted = c.wake.ensures.noted k (begun s) (noted_none order k ready.idle ready.untold) ready.good waiting_on refl in

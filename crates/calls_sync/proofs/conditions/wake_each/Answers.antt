@@ -14,7 +14,7 @@ use Rattle.calls_sync.proofs.conditions.wake_each.Goals as goal
 
 pub loop-number-init : goal.loop-number-init
 loop-number-init g c =
-    (noted_none g.R.Ready.order c.args.k.now c.requires.ready.idle c.requires.ready.untold, ap (length {A = Change}) c.requires.ready.idle.none)
+    (noted_none g.R.Ready.order c.args.k.now c.requires.ready.idle c.requires.ready.untold, ap (length {A = Change}) c.requires.ready.idle.rest.none)
 
 pub cond_waiter-u-requires-clause-waits : goal.cond_waiter-u-requires-clause-waits
 cond_waiter-u-requires-clause-waits g c =

@@ -2,7 +2,7 @@ use Rattle.std.proofs.Common.{◌∙◌, sym, subst}
 use Rattle.posix_model.specs.State.{State, Mutex}
 use Rattle.thread_base.specs.Objects.{waiters_in}
 use Rattle.posix_model.specs.Replies.{Called}
-use Rattle.kernel_state.specs.View.{view, seen}
+use Rattle.kernel_state.specs.View.{view, mutex_of}
 use Rattle.kernel_state.specs.Begun.{HasNotedSome}
 use Rattle.calls_sync.proofs.MutexLemmas.{unlock_held}
 use Rattle.calls_sync.proofs.mutexes.unlock_mutex.Goals as goal
@@ -10,7 +10,7 @@ use Rattle.calls_sync.proofs.mutexes.unlock_mutex.Goals as goal
 pub returns-clause-noted : goal.returns-clause-noted
 returns-clause-noted g c =
     let s : State = view g.R.Ready.order c.args.k.now.tables in
-    let mutex : Mutex = seen c.args.look (waiters_in (s.mutexes c.args.m)) in
+    let mutex : Mutex = mutex_of c.args.mutex (waiters_in (s.mutexes c.args.m)) in
     subst (λ (x : Called). HasNotedSome g.R.Ready.order c.args.k.now c.release.new.k x.outcome)
     (unlock_held s c.args.t c.args.m mutex (sym c.is_held_by.ensures ∙ c.if-not-is_held_by.false))
     (c.release.ensures mutex c.requires.found)

@@ -17,7 +17,7 @@ returns-in-None g c =
     let k = c.args.k.now in
     let t = c.args.t in
     let s : State = view g.R.Ready.order k.tables in
-    let nobody : joiner s t ≡ None = sym (c.joiner-joiner.ensures ∙ ap (λ (x : Tables _). joiner (view g.R.Ready.order x) t) c.tables.ensures) ∙ c.in-None.is in
+    let nobody : joiner s t ≡ None = sym (c.joiner-joiner.ensures ∙ ap (λ (x : Tables _). joiner (view g.R.Ready.order x) t) c.tables.ensures.tables) ∙ c.in-None.is in
     subst (λ (g' : Outcome). HasNotedSome g.R.Ready.order k c.note_more.new.self g') (ended_alone s t c.args.value nobody)
     (subst (NotesMore g.R.Ready.order c.note_orphans.new.k c.note_more.new.self) c.ended.ensures c.note_more.ensures.noted k (begun (with_orphans s t)) c.note_orphans.ensures.noted (can_end_alone s t c.args.value c.requires.listed c.requires.calm))
 
@@ -27,7 +27,7 @@ returns-in-Some g c =
     let t = c.args.t in
     let u = c.in-Some.u in
     let s : State = view g.R.Ready.order k.tables in
-    let found : joiner s t ≡ Some u = sym (c.joiner-joiner.ensures ∙ ap (λ (x : Tables _). joiner (view g.R.Ready.order x) t) c.tables.ensures) ∙ c.in-Some.is in
+    let found : joiner s t ≡ Some u = sym (c.joiner-joiner.ensures ∙ ap (λ (x : Tables _). joiner (view g.R.Ready.order x) t) c.tables.ensures.tables) ∙ c.in-Some.is in
     let answered : Outcome = change_by (OfThread u (Answer 0 c.args.value)) (begun (with_orphans s t)) in
     let first = c.note_more-in-Some.ensures.noted k (begun (with_orphans s t)) c.note_orphans.ensures.noted (can_answer s t u c.args.value c.requires.good c.requires.listed found) in
     subst (λ (g' : Outcome). HasNotedSome g.R.Ready.order k c.note_more-in-Some-2.new.self g') (ended_joined s t u c.args.value c.requires.good c.requires.listed found)

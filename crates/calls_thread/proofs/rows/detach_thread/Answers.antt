@@ -17,7 +17,7 @@ note_two-requires-clause-second g c =
     let stays : ThreadChange → Type 0 = λ x. exists (thread_change_by x c.args.u (begun s)).state c.args.t ≡ true in
     elim c.match-known.branch [
       | in-Some w ↦
-          let kept = c.known.ensures ∙ ap (λ (x : Tables _). (view g.R.Ready.order x).threads c.args.u) c.tables.ensures in
+          let kept = c.known.ensures ∙ ap (λ (x : Tables _). (view g.R.Ready.order x).threads c.args.u) c.tables.ensures.tables in
           let gone : is_ready (s.threads c.args.u).standing ≡ false =
           sym (ap (λ (x : Thread). is_ready x.standing) kept) ∙ ap (λ (o : Option _). is_ready (standing_of o c.known.result.activity.wait)) w.in-Some.is in
           can (subst stays (sym w.change-is) (there_set s c.args.t c.args.u no_thread (ended_apart s c.args.t c.args.u c.requires.ready.listed.2 gone) c.requires.ready.listed.0))

@@ -22,7 +22,7 @@ note_two-requires-clause-second g c =
 pub returns-clause-noted : goal.returns-clause-noted
 returns-clause-noted g c =
     let s : State = view g.R.Ready.order c.args.k.now.tables in
-    let known = c.known-creator.ensures ∙ ap (λ (x : Tables _). (view g.R.Ready.order x).threads c.args.t) c.tables.ensures in
+    let known = c.known-creator.ensures ∙ ap (λ (x : Tables _). (view g.R.Ready.order x).threads c.args.t) c.tables.ensures.tables in
     let same = c.first_of.ensures (s.threads c.args.t)
     (sym (ap (λ (x : Thread). x.base) known)) (sym (ap (λ (x : Thread). x.policy) known)) in
     let outcome : Thread → ℕ → Type 0 = λ x n. HasNotedSome g.R.Ready.order c.args.k.now c.note_two.new.self (values (begun (append s c.args.u x)) c.args.t 0 n).outcome in
