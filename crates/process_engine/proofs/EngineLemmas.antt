@@ -1,11 +1,9 @@
 -- A process at rest and in a move, and its first instruction of a move.
 use Rattle.std.proofs.Common.{◌≡◌, ◌∙◌, ap, sym, refl, subst, inl, inr, ℕ, ◌+◌, ◌≤◌, true, false, List, [], ◌∷◌, length, drop, Option, Some, None, arith}
-use Rattle.thread_base.specs.Orders.{is_nil}
 use Rattle.thread_base.specs.Priority.{tids}
-use Rattle.ready_queues.specs.Queue.{Queue, level_of}
+use Rattle.ready_queues.specs.Queue.{Queue}
 use Rattle.posix_model.specs.State.{State, none_pending}
 use Rattle.posix_model.specs.Scheduling.{chosen}
-use Rattle.posix_model.specs.Good.{IsGood}
 use Rattle.posix_model.specs.Changes.{Outcome}
 use Rattle.posix_model.specs.Deliveries.{next_delivery, delivered, deliver}
 use Rattle.posix_model.specs.Instructions.{instruction}
@@ -21,56 +19,44 @@ use Rattle.posix_model.specs.declared.Move.TheVariants.{Instr, Arrive, Deliver}
 use Rattle.posix_model.specs.declared.Report.{Report}
 use Rattle.posix_model.specs.declared.Settings.{Settings}
 use Rattle.posix_model.proofs.DeliveryLemmas.{next_none}
-use Rattle.posix_model.proofs.GoodMoves.{goodness}
 use Rattle.trace_text.specs.Counting.{is_delivery, counted, told_of, told_by as added_by}
-use Rattle.kernel_state.specs.View.{view, outcome, AreCurrent, StayCurrent}
+use Rattle.kernel_state.specs.View.{view, outcome}
 use Rattle.kernel_state.specs.Changing.{owed}
-use Rattle.kernel_state.specs.Moves.{left, IsIdle, owed_by}
 use Rattle.kernel_state.specs.Begun.{IsBegun}
-use Rattle.kernel_state.specs.declared.change.Change.{Change}
-use Rattle.kernel_state.specs.declared.kernel.Kernel.{Kernel}
+use Rattle.kernel_state.specs.Kernels.{KernelState, remaining, IsEmpty, IsIdle, owed_by}
 use Rattle.kernel_state.specs.declared.rest.Rest.{Rest}
-use Rattle.process_engine.specs.Engine.{Engine, order, owed_of, moment_of, position_of, telling_of, IsAtRest, HasTurn, Stands, IsSound}
-use Rattle.process_engine.specs.Advancing.{HasGoneOn, HasBegun, BeginsInstruction, MakesPlain, BeginsMove, HasEnded, Advances}
+use Rattle.process_engine.specs.Engine.{Engine, order, owed_of, moment_of, position_of, telling_of, HasTurn, Stands, IsSound}
+use Rattle.process_engine.specs.Advancing.{HasGoneOn, HasBegun, BeginsInstruction, MakesPlain, BeginsMove, EndsHere, Advances}
 use Rattle.process_engine.specs.declared.stage.Advance.TheVariants.{Plain, Switched, Begun}
 use Rattle.process_engine.specs.declared.stage.Stage.{Stage}
 use Rattle.process_engine.specs.declared.stage.Stage.TheVariants.{Going, Paused, InCall}
+use Rattle.kernel_state.proofs.NoteLemmas.{idle_remaining}
 use Rattle.process_engine.proofs.CountLemmas.{instruction_counts, delivery_counts}
 use Rattle.process_engine.proofs.InstructionLemmas.{has_begun}
 
 -- at rest nothing is left, and nothing is owed
-idle_left : (rest : Rest) → IsIdle rest → left rest ≡ []
-idle_left rest idle = λ i. drop (idle.first i) (idle.none i)
-
-pub none_left : (rest : Rest) → IsIdle rest → length (left rest) ≡ 0
-none_left rest idle = ap length (idle_left rest idle)
-
-pub some_left : (changes : List Change) → is_nil changes ≡ false → 1 ≤ length changes
-some_left [] e = absurd (let h : true ≡ false = e in cc)
-some_left (change ∷ rest) e = omega arith
+pub none_remaining : (rest : Rest) → IsEmpty rest → length (remaining rest) ≡ 0
+none_remaining rest empty = ap length (idle_remaining rest empty)
 
 pub owed_state : (p : Engine) → (owed_of p).state ≡ (owed_by order p.kernel).state
 unfolding owed_of
 owed_state p = refl
 
-pub moment_state : (p : Engine) → IsIdle p.kernel.rest → (moment_of p).state ≡ view order p.kernel.tables
+pub moment_state : (p : Engine) → IsIdle p.kernel → (moment_of p).state ≡ view order p.kernel.tables
 unfolding outcome
-moment_state p idle = owed_state p ∙ ap (λ xs. (owed (outcome order p.kernel.tables) xs).state) (idle_left p.kernel.rest idle)
+moment_state p idle = owed_state p ∙ ap (λ xs. (owed (outcome order p.kernel.tables) xs).state) (idle_remaining p.kernel.rest idle.rest)
 
 -- what the stage of a process says
 pub stands_at : (p : Engine) (stage : Stage) → IsSound p → p.stage ≡ stage → Stands order p.kernel p.last stage
 stands_at p stage sound e = subst (Stands order p.kernel p.last) e sound.stands
 
-rests_at : (stage : Stage) (k : Kernel Queue) (last : Option ℕ) (report : Report) → Stands order k last stage → telling_of stage report ≡ None → IsAtRest k
+rests_at : (stage : Stage) (k : KernelState Queue) (last : Option ℕ) (report : Report) → Stands order k last stage → telling_of stage report ≡ None → IsIdle k
 rests_at Going k last report stands e = stands.0
 rests_at Paused k last report stands e = stands
 rests_at InCall k last report stands e = absurd (let h : Some report ≡ None = e in cc)
 
-pub rest_stands : (p : Engine) → IsSound p → (position_of p).telling ≡ None → IsAtRest p.kernel
+pub rest_stands : (p : Engine) → IsSound p → (position_of p).telling ≡ None → IsIdle p.kernel
 rest_stands p sound e = rests_at p.stage p.kernel p.last (owed_of p).report sound.stands e
-
-pub good_at_rest : (p : Engine) → IsSound p → IsAtRest p.kernel → IsGood (view order p.kernel.tables)
-good_at_rest p sound rest = subst IsGood (moment_state p rest.idle) sound.good
 
 -- a process after a move is sound, and so is one whose run stays
 within_budget : (settings : Settings) (now : Moment) (move : Move) → Allowed settings now move → now.instructions ≤ settings.budget → (moved now move).instructions ≤ settings.budget
@@ -78,32 +64,23 @@ within_budget settings now (Instr t) allowed within = let less = allowed.1 in om
 within_budget settings now (Arrive first count at) allowed within = absurd allowed
 within_budget settings now Deliver allowed within = within
 
-module _ (p q : Engine) (sound : IsSound p) (settings : q.settings ≡ p.settings) (current : StayCurrent order level_of p.kernel.tables q.kernel.tables)
-    (stands : Stands order q.kernel q.last q.stage) where
-  sound_at : (now : Moment) → moment_of q ≡ now → now.instructions ≤ p.settings.budget → IsGood now.state → IsSound q
-  sound_at now is within good =
+module _ (p q : Engine) (sound : IsSound p) (settings : q.settings ≡ p.settings) (stands : Stands order q.kernel q.last q.stage) where
+  sound_at : (now : Moment) → moment_of q ≡ now → now.instructions ≤ p.settings.budget → IsSound q
+  sound_at now is within =
       let budget = ap (λ (x : Settings). x.budget) settings in
       let instructions = ap (λ (x : Moment). x.instructions) is in
       let limit = sound.limit in
-      record {
-        within = omega (arith, budget, instructions, within);
-        limit = omega (arith, budget, limit);
-        good = subst (λ (x : Moment). IsGood x.state) (sym is) good;
-        current = current sound.current;
-        stands = stands;
-      }
+      record { within = omega (arith, budget, instructions, within); limit = omega (arith, budget, limit); stands = stands }
 
   pub sound_same : moment_of q ≡ moment_of p → IsSound q
-  sound_same same = sound_at (moment_of p) same sound.within sound.good
+  sound_same same = sound_at (moment_of p) same sound.within
 
   pub sound_moved : (move : Move) → Allowed p.settings (moment_of p) move → moment_of q ≡ moved (moment_of p) move → IsSound q
-  sound_moved move allowed leads =
-      sound_at (moved (moment_of p) move) leads (within_budget p.settings (moment_of p) move allowed sound.within)
-      (goodness.1 p.settings (moment_of p) move sound.good allowed)
+  sound_moved move allowed leads = sound_at (moved (moment_of p) move) leads (within_budget p.settings (moment_of p) move allowed sound.within)
 
 -- a thread is chosen, and has its turn
 pub record Turn (p : Engine) (t : ℕ) : Type 0 where
-  pub rest : IsAtRest p.kernel
+  pub rest : IsIdle p.kernel
   pub going_on : (view order p.kernel.tables).over ≡ None
   pub calm : (view order p.kernel.tables).pending ≡ none_pending
   pub first : chosen (view order p.kernel.tables) ≡ Some t
@@ -119,17 +96,20 @@ chosen_turn p old t is sound paused over calm first =
     subst (λ x. Turn x t) (sym is) (record { rest = stands_at old Paused (subst IsSound is sound) paused; going_on = over; calm = calm; first = first })
 
 -- the chosen thread is put in place
-module _ (p : Engine) (t : ℕ) (sound : IsSound p) (turn : Turn p t) (k : Kernel Queue) (same : view order k.tables ≡ view order p.kernel.tables) (placed : k.tables.placed ≡ t)
-    (told : k.tables.report ≡ p.kernel.tables.report) (others : k ≡ record p.kernel { tables = k.tables }) where
-  pub placed_rest : IsAtRest k
-  placed_rest = record { idle = subst IsIdle (sym (ap (λ (x : Kernel Queue). x.rest) others)) turn.rest.idle; untold = told ∙ turn.rest.untold }
+module _ (p : Engine) (t : ℕ) (turn : Turn p t) (k : KernelState Queue) (same : view order k.tables ≡ view order p.kernel.tables) (placed : k.tables.placed ≡ t)
+    (others : k ≡ record p.kernel { tables = k.tables }) where
+  pub placed_idle : IsIdle k
+  placed_idle = record {
+    main = ap (λ (x : KernelState Queue). x.main) others ∙ turn.rest.main;
+    rest = subst IsEmpty (sym (ap (λ (x : KernelState Queue). x.rest) others)) turn.rest.rest;
+  }
 
-  pub placed_turn : HasTurn order k × IsGood (view order k.tables)
-  placed_turn =
-      let over = ap (λ (s : State). s.over) same ∙ turn.going_on in
-      let calm = ap (λ (s : State). s.pending) same ∙ turn.calm in
-      let first = ap chosen same ∙ turn.first ∙ ap Some (sym placed) in
-      (record { going_on = over; calm = calm; first = first }, subst IsGood (sym same) (good_at_rest p sound turn.rest))
+  pub placed_turn : HasTurn order k
+  placed_turn = record {
+    going_on = ap (λ (s : State). s.over) same ∙ turn.going_on;
+    calm = ap (λ (s : State). s.pending) same ∙ turn.calm;
+    first = ap chosen same ∙ turn.first ∙ ap Some (sym placed);
+  }
 
 -- where nothing pends, no delivery is next
 calm_next : (s : State) → s.pending ≡ none_pending → next_delivery s ≡ None
@@ -137,28 +117,28 @@ calm_next s calm = next_none s (λ t sig. ap (λ (m : ℕ → ℕ → ℕ). m t 
 
 turn_of : (p : Engine) (t : ℕ) → Turn p t → IsTurnOf (moment_of p).state t
 turn_of p t turn =
-    subst (λ s. IsTurnOf s t) (sym (moment_state p turn.rest.idle))
+    subst (λ s. IsTurnOf s t) (sym (moment_state p turn.rest))
     (record { going_on = turn.going_on; settled = calm_next (view order p.kernel.tables) turn.calm; first = turn.first })
 
 -- the run has ended
-has_ended : (p old : Engine) (ending : Ending) → p ≡ old → Ends p.settings (moment_of p) ending → HasEnded old old ending
-has_ended p old ending is ends = subst (λ x. HasEnded x x ending) is (record { ends = ends; same = refl })
+has_ended : (p old : Engine) (ending : Ending) → p ≡ old → Ends p.settings (moment_of p) ending → EndsHere old old ending
+has_ended p old ending is ends = subst (λ x. EndsHere x x ending) is (record { ends = ends; same = refl })
 
-pub is_over : (p old : Engine) (ending : Ending) → p ≡ old → IsAtRest p.kernel → (view order p.kernel.tables).over ≡ Some ending → HasEnded old old ending
-is_over p old ending is rest over = has_ended p old ending is (inl (ap (λ (s : State). s.over) (moment_state p rest.idle) ∙ over))
+pub is_over : (p old : Engine) (ending : Ending) → p ≡ old → IsIdle p.kernel → (view order p.kernel.tables).over ≡ Some ending → EndsHere old old ending
+is_over p old ending is rest over = has_ended p old ending is (inl (ap (λ (s : State). s.over) (moment_state p rest) ∙ over))
 
-pub is_idle : (p old : Engine) → p ≡ old → IsAtRest p.kernel → (view order p.kernel.tables).over ≡ None → (view order p.kernel.tables).pending ≡ none_pending
-    → chosen (view order p.kernel.tables) ≡ None → HasEnded old old Idle
+pub is_idle : (p old : Engine) → p ≡ old → IsIdle p.kernel → (view order p.kernel.tables).over ≡ None → (view order p.kernel.tables).pending ≡ none_pending
+    → chosen (view order p.kernel.tables) ≡ None → EndsHere old old Idle
 is_idle p old is rest over calm nobody =
     let s = view order p.kernel.tables in
     let idle : IsIdleState s = record { going_on = over; settled = calm_next s calm; nobody = nobody } in
-    has_ended p old Idle is (inr (inl (refl, subst IsIdleState (sym (moment_state p rest.idle)) idle)))
+    has_ended p old Idle is (inr (inl (refl, subst IsIdleState (sym (moment_state p rest)) idle)))
 
-pub is_spent : (p old : Engine) (t : ℕ) → p ≡ old → Turn p t → p.instructions ≡ p.settings.budget → HasEnded old old Budget
+pub is_spent : (p old : Engine) (t : ℕ) → p ≡ old → Turn p t → p.instructions ≡ p.settings.budget → EndsHere old old Budget
 is_spent p old t is turn spent = has_ended p old Budget is (inr (inr (refl, record { used_up = spent; tid = t; turn = turn_of p t turn })))
 
 -- a move was begun
-module _ (p q : Engine) (move : Move) (g : Outcome) (has : HasBegun order q.kernel g) (made : g ≡ make (moment_of p).state move) (allowed : Allowed p.settings (moment_of p) move)
+module _ (p q : Engine) (k : KernelState Queue) (from : view order k.tables ≡ view order p.kernel.tables) (move : Move) (g : Outcome) (has : HasBegun order k q.kernel g) (made : g ≡ make (moment_of p).state move) (allowed : Allowed p.settings (moment_of p) move)
     (stage : q.stage ≡ InCall) where
   owed_is : owed_of q ≡ g
   unfolding owed_of
@@ -173,8 +153,9 @@ module _ (p q : Engine) (move : Move) (g : Outcome) (has : HasBegun order q.kern
     told = ap (λ (x : Outcome). x.report) (owed_is ∙ made);
     main = λ h. has.main (sym (ap (λ (x : Outcome). x.report.head) owed_is) ∙ h);
     stage = stage;
-    some = some_left (left q.kernel.rest) has.call.begun;
+    some = has.some;
     few = has.few;
+    shown = has.shown ∙ from;
   }
 
 -- a plain instruction has no lines
@@ -191,13 +172,13 @@ module _ (p old : Engine) (is : p ≡ old) (t : ℕ) (sound : IsSound p) (turn :
   allowed_here : Allowed p.settings (moment_of p) (Instr t)
   allowed_here = (turn_of p t turn, (let within = sound.within in omega (arith, within, other)))
 
-  module _ (k l : Kernel Queue) (same : view order k.tables ≡ view order p.kernel.tables) (placed : k.tables.placed ≡ t) (current : StayCurrent order level_of p.kernel.tables l.tables)
+  module _ (k l : KernelState Queue) (same : view order k.tables ≡ view order p.kernel.tables) (placed : k.tables.placed ≡ t)
       (last : Option ℕ) (by : last ≡ Some t) where
     abbrev at : Stage → Engine
     at stage = record { kernel = l; instructions = p.instructions + 1; last = last; stage = stage; settings = p.settings }
 
     made_is : instruction (view order k.tables) k.tables.placed ≡ instruction (moment_of p).state t
-    made_is = λ i. instruction ((same ∙ sym (moment_state p turn.rest.idle)) i) (placed i)
+    made_is = λ i. instruction ((same ∙ sym (moment_state p turn.rest)) i) (placed i)
 
     leads_to : (stage : Stage) → (owed_of (at stage)).state ≡ (instruction (moment_of p).state t).state → moment_of (at stage) ≡ moved (moment_of p) (Instr t)
     leads_to stage state = λ i. record { state = state i; instructions = p.instructions + 1; last = by i }
@@ -208,7 +189,7 @@ module _ (p old : Engine) (is : p ≡ old) (t : ℕ) (sound : IsSound p) (turn :
 
     module _ (on : HasGoneOn order k l) (stage : Stage) (going : stage ≡ Going) where
       went_to : moment_of (at stage) ≡ moved (moment_of p) (Instr t)
-      went_to = leads_to stage (moment_state (at stage) on.rest.idle ∙ on.state ∙ ap (λ (g : Outcome). g.state) made_is)
+      went_to = leads_to stage (moment_state (at stage) on.rest ∙ on.state ∙ ap (λ (g : Outcome). g.state) made_is)
 
       plain : MakesPlain p (at stage)
       plain = record {
@@ -218,7 +199,8 @@ module _ (p old : Engine) (is : p ≡ old) (t : ℕ) (sound : IsSound p) (turn :
             ∙ ap (λ r. lines r (moment_of (at stage)).state.memory) on.tells
             ∙ no_lines k.tables.placed (moment_of (at stage)).state.memory;
         stage = going;
-        none = none_left l.rest on.rest.idle;
+        none = none_remaining l.rest on.rest.rest;
+        shown = sym (moment_state (at stage) on.rest);
       }
 
       pub goes_plain : last ≡ p.last → Advances old Plain (record { kernel = l; instructions = p.instructions + 1; last = last; stage = stage; settings = p.settings })
@@ -230,27 +212,27 @@ module _ (p old : Engine) (is : p ≡ old) (t : ℕ) (sound : IsSound p) (turn :
       pub plain_sound : IsSound (record { kernel = l; instructions = p.instructions + 1; last = last; stage = stage; settings = p.settings })
       plain_sound =
           let stands : Stands order l last Going = (on.rest, on.turn, by ∙ ap Some (sym (on.placed ∙ placed))) in
-          sound_moved p (at stage) sound refl current (subst (Stands order l last) (sym going) stands) (Instr t) allowed_here went_to
+          sound_moved p (at stage) sound refl (subst (Stands order l last) (sym going) stands) (Instr t) allowed_here went_to
 
-    module _ (has : BeginsInstruction order l (instruction (view order k.tables) k.tables.placed)) where
+    module _ (has : BeginsInstruction order k l (instruction (view order k.tables) k.tables.placed)) where
       begun_to : moment_of (at InCall) ≡ moved (moment_of p) (Instr t)
-      begun_to = leads_to InCall (state_is p (at InCall) (Instr t) _ has.0 made_is allowed_here refl)
+      begun_to = leads_to InCall (state_is p (at InCall) k same (Instr t) _ has.0 made_is allowed_here refl)
 
       pub goes_begun : Advances old (Begun p.last) (record { kernel = l; instructions = p.instructions + 1; last = last; stage = InCall; settings = p.settings })
       goes_begun =
-          (subst (λ x. BeginsMove x (at InCall)) is (begins p (at InCall) (Instr t) _ has.0 made_is allowed_here refl begun_to (adds _ refl has.1)), ap (λ (x : Engine). x.last) is)
+          (subst (λ x. BeginsMove x (at InCall)) is (begins p (at InCall) k same (Instr t) _ has.0 made_is allowed_here refl begun_to (adds _ refl has.1)), ap (λ (x : Engine). x.last) is)
 
       pub begun_sound : IsSound (record { kernel = l; instructions = p.instructions + 1; last = last; stage = InCall; settings = p.settings })
-      begun_sound = sound_moved p (at InCall) sound refl current has.0.call (Instr t) allowed_here begun_to
+      begun_sound = sound_moved p (at InCall) sound refl has.0.call (Instr t) allowed_here begun_to
 
 -- the delivery of a fault's signal is begun
-module _ (p old : Engine) (is : p ≡ old) (t sig : ℕ) (sound : IsSound p) (rest : IsAtRest p.kernel) (over : (view order p.kernel.tables).over ≡ None)
-    (next : next_delivery (view order p.kernel.tables) ≡ Some (record { thread = t; signal = sig })) (l : Kernel Queue) (begun : IsBegun order p.kernel l (deliver (view order p.kernel.tables))) where
+module _ (p old : Engine) (is : p ≡ old) (t sig : ℕ) (sound : IsSound p) (rest : IsIdle p.kernel) (untold : p.kernel.tables.report ≡ nothing_told) (over : (view order p.kernel.tables).over ≡ None)
+    (next : next_delivery (view order p.kernel.tables) ≡ Some (record { thread = t; signal = sig })) (l : KernelState Queue) (begun : IsBegun order p.kernel l (deliver (view order p.kernel.tables))) where
   abbrev delivering : Engine
   delivering = record { kernel = l; instructions = p.instructions; last = p.last; stage = InCall; settings = p.settings }
 
   here : (moment_of p).state ≡ view order p.kernel.tables
-  here = moment_state p rest.idle
+  here = moment_state p rest
 
   can_deliver : Allowed p.settings (moment_of p) Deliver
   can_deliver = (ap (λ (s : State). s.over) here ∙ over, record { thread = t; signal = sig }, ap next_delivery here ∙ next)
@@ -258,21 +240,20 @@ module _ (p old : Engine) (is : p ≡ old) (t sig : ℕ) (sound : IsSound p) (re
   head_is : (deliver (view order p.kernel.tables)).report.head ≡ DeliverHead t sig ((view order p.kernel.tables).pending t sig)
   head_is = ap (λ d. (delivered (view order p.kernel.tables) d).report.head) next
 
-  has : HasBegun order l (deliver (view order p.kernel.tables))
+  has : HasBegun order p.kernel l (deliver (view order p.kernel.tables))
   has =
-      has_begun order p.kernel l (deliver (view order p.kernel.tables)) rest.untold begun
+      has_begun order p.kernel l (deliver (view order p.kernel.tables)) untold begun
       (λ h. absurd (let e : Quiet ≡ DeliverHead t sig ((view order p.kernel.tables).pending t sig) = sym h ∙ head_is in cc))
 
   delivers_to : moment_of delivering ≡ moved (moment_of p) Deliver
   delivers_to =
-      let state = state_is p delivering Deliver _ has (ap deliver (sym here)) can_deliver refl in
+      let state = state_is p delivering p.kernel refl Deliver _ has (ap deliver (sym here)) can_deliver refl in
       λ i. record { state = state i; instructions = p.instructions; last = p.last }
 
   pub delivers : Advances old (Begun p.last) (record { kernel = l; instructions = p.instructions; last = p.last; stage = InCall; settings = p.settings })
   delivers =
       let counts = delivery_counts (moment_of p) p.last _ t sig ((view order p.kernel.tables).pending t sig) refl head_is in
-      (subst (λ x. BeginsMove x delivering) is (begins p delivering Deliver _ has (ap deliver (sym here)) can_deliver refl delivers_to counts), ap (λ (x : Engine). x.last) is)
+      (subst (λ x. BeginsMove x delivering) is (begins p delivering p.kernel refl Deliver _ has (ap deliver (sym here)) can_deliver refl delivers_to counts), ap (λ (x : Engine). x.last) is)
 
   pub delivers_sound : IsSound (record { kernel = l; instructions = p.instructions; last = p.last; stage = InCall; settings = p.settings })
-  delivers_sound =
-      sound_moved p delivering sound refl (λ current. subst (λ x. AreCurrent (level_of x.ready) (view order x)) (sym begun.tables) current) has.call Deliver can_deliver delivers_to
+  delivers_sound = sound_moved p delivering sound refl has.call Deliver can_deliver delivers_to

@@ -1,9 +1,11 @@
 -- What one instruction of the thread in place comes to.
-use Rattle.std.proofs.Common.{◌≡◌, ◌≤◌, ◌∙◌, ap, sym, refl, subst, arith, ℕ, false, not, List, [], ◌∷◌, Some, length, drop}
+use Rattle.std.proofs.Common.{◌≡◌, ◌≤◌, ◌∙◌, ap, sym, refl, subst, arith, ℕ, true, false, List, [], ◌∷◌, Option, Some, None, length, drop}
+use Rattle.thread_base.specs.Orders.{is_nil}
+use Rattle.posix_model.specs.declared.Report.{Report}
+use Rattle.trace_text.specs.Output.{IsReadable}
 use Rattle.std.proofs.lemmas.List.{length-drop}
 use Rattle.thread_base.specs.Priority.{effective, first_greatest}
 use Rattle.thread_base.proofs.MapLemmas.{kept}
-use Rattle.thread_base.proofs.PriorityLemmas.{first_in}
 use Rattle.rv_exec.specs.Meaning.{Effect}
 use Rattle.rv_exec.specs.declared.Event.{Event}
 use Rattle.rv_exec.specs.declared.Event.TheVariants.{Next, Ecall, Fault, Return}
@@ -12,7 +14,6 @@ use Rattle.rv_exec.specs.declared.Special.TheVariants.{Handler, Cleanup, Start}
 use Rattle.posix_model.specs.State.{State, Thread, Registers, Phase, Normal, Leaving}
 use Rattle.posix_model.specs.Scheduling.{edge, eff, chosen}
 use Rattle.posix_model.specs.Changes.{Outcome, set_registers}
-use Rattle.posix_model.specs.Good.{IsGood}
 use Rattle.posix_model.specs.Instructions.{instruction, by_effect, returned, segmentation_fault}
 use Rattle.posix_model.specs.Reports.{nothing_told}
 use Rattle.posix_model.specs.Calls.{call, call_row}
@@ -20,26 +21,17 @@ use Rattle.posix_model.specs.declared.Arguments.{Arguments}
 use Rattle.posix_model.specs.declared.Head.{Head}
 use Rattle.posix_model.specs.declared.Head.TheVariants.{Quiet, Call, Ret, Fault as FaultHead}
 use Rattle.trace_text.specs.Counting.{is_delivery}
-use Rattle.posix_model.proofs.StandingLemmas.{ready_live}
 use Rattle.kernel_state.specs.View.{view, outcome}
-use Rattle.kernel_state.specs.Changing.{IsListed}
-use Rattle.kernel_state.specs.Moves.{left, IsIdle}
+use Rattle.kernel_state.specs.Changing.{owed}
 use Rattle.kernel_state.specs.Executing.{HasExecuted, effect_at}
 use Rattle.kernel_state.specs.Begun.{CanBegin, IsBegun}
 use Rattle.kernel_state.specs.declared.change.Change.{Change}
-use Rattle.kernel_state.specs.declared.kernel.Kernel.{Kernel}
+use Rattle.kernel_state.specs.Kernels.{KernelState, remaining, IsEmpty, IsIdle, told}
+use Rattle.kernel_state.specs.declared.kernel.MainLine.{MainLine}
 use Rattle.kernel_state.specs.declared.tables.Tables.{Tables}
-use Rattle.process_engine.specs.Engine.{IsAtRest, HasTurn}
+use Rattle.process_engine.specs.Engine.{HasTurn}
 use Rattle.process_engine.specs.Advancing.{HasGoneOn, HasBegun, BeginsInstruction}
 use Rattle.process_engine.proofs.ReadableLemmas.{untold_readable, owed_readable}
-
--- the chosen thread is ready
-pub chosen_listed : (s : State) (t : ℕ) → IsGood s → chosen s ≡ Some t → IsListed s t
-unfolding chosen
-chosen_listed s t good first =
-    let listed = first_in (eff s) s.ready t first in
-    let ready = sym (good.ready.listed t) ∙ listed in
-    (ap not (ready_live (s.threads t).standing ready).0, listed, ready)
 
 -- registers and memory count for no priority
 chosen_stays : (s : State) (t : ℕ) (registers : Registers) (memory : List ℕ) → chosen (record (set_registers s t registers) { memory = memory }) ≡ chosen s
@@ -49,16 +41,18 @@ chosen_stays s t registers memory =
     λ i. first_greatest (λ u. effective (λ v. own_stays v i) (edge s) u) s.ready
 
 -- an instruction of the thread in place, which has its turn, up to what its event asks for
-module _ {R : Type 0} (order : R → List ℕ) (k q : Kernel R) (rest : IsAtRest k) (turn : HasTurn order k) (good : IsGood (view order k.tables)) (placed : q.tables.placed ≡ k.tables.placed)
-    (untold : q.tables.report ≡ k.tables.report) (others : q ≡ record k { tables = q.tables }) where
+module _ {R : Type 0} (order : R → List ℕ) (k q : KernelState R) (idle : IsIdle k) (turn : HasTurn order k) (placed : q.tables.placed ≡ k.tables.placed) (others : q ≡ record k { tables = q.tables }) where
   abbrev s : State
   s = view order k.tables
 
   abbrev t : ℕ
   t = k.tables.placed
 
-  at_rest : IsAtRest q
-  at_rest = record { idle = subst IsIdle (sym (ap (λ (x : Kernel R). x.rest) others)) rest.idle; untold = untold ∙ rest.untold }
+  still_idle : IsIdle q
+  still_idle = record {
+    main = ap (λ (x : KernelState R). x.main) others ∙ idle.main;
+    rest = subst IsEmpty (sym (ap (λ (x : KernelState R). x.rest) others)) idle.rest;
+  }
 
   -- a plain one
   pub goes_on : HasExecuted (view order k.tables) k.tables.placed Next (view order q.tables) → HasGoneOn order k q
@@ -69,7 +63,7 @@ module _ {R : Type 0} (order : R → List ℕ) (k q : Kernel R) (rest : IsAtRest
       record {
         state = h.3 ∙ sym (ap (λ (g : Outcome). g.state) went);
         tells = ap (λ (g : Outcome). g.report) went;
-        rest = at_rest;
+        rest = still_idle;
         turn = record {
           going_on = ap (λ (x : State). x.over) h.3 ∙ turn.going_on;
           calm = ap (λ (x : State). x.pending) h.3 ∙ turn.calm;
@@ -80,15 +74,12 @@ module _ {R : Type 0} (order : R → List ℕ) (k q : Kernel R) (rest : IsAtRest
 
   -- another leaves the machine, and its move can begin
   pub can_begin : view order q.tables ≡ view order k.tables → CanBegin order q q.tables.placed
-  can_begin same =
-      let listed = chosen_listed s t good turn.first in
-      record {
-        idle = at_rest.idle;
-        untold = at_rest.untold;
-        good = subst IsGood (sym same) good;
-        listed = subst (λ u. IsListed (view order q.tables) u) (sym placed) (subst (λ x. IsListed x t) (sym same) listed);
-        calm = ap (λ (x : State). x.pending) same ∙ turn.calm;
-      }
+  can_begin same = record {
+    idle = still_idle;
+    going_on = ap (λ (x : State). x.over) same ∙ turn.going_on;
+    calm = ap (λ (x : State). x.pending) same ∙ turn.calm;
+    first = ap chosen same ∙ turn.first ∙ ap Some (sym placed);
+  }
 
 -- an instruction that is no plain one leaves the machine
 pub stays : (s r : State) (t : ℕ) (event : Event) → HasExecuted s t event r → (event ≡ Next → ⊥) → r ≡ s
@@ -118,22 +109,34 @@ return_main s t Cleanup (Leaving value) = made_main Cleanup
 return_main s t Start Normal = made_main Start
 return_main s t Start (Leaving value) = fault_main segmentation_fault
 
--- what is left of a few changes are a few
-few_left : (xs : List Change) (i : ℕ) → length xs ≤ 512 → length (drop i xs) ≤ 512
-few_left xs i few = let cut = length-drop i xs in omega (arith, cut, few)
+-- what is left of a few changes are a few, and of some is some
+few_remaining : (xs : List Change) (i : ℕ) → length xs ≤ 512 → length (drop i xs) ≤ 512
+few_remaining xs i few = let cut = length-drop i xs in omega (arith, cut, few)
 
--- a move that was begun where nothing was told yet
-pub has_begun : {R : Type 0} (order : R → List ℕ) (k q : Kernel R) (g : Outcome) → k.tables.report ≡ nothing_told → IsBegun order k q g → (g.report.head ≡ Quiet → ⊥)
-    → HasBegun order q g
+pub some_remaining : (changes : List Change) → is_nil changes ≡ false → 1 ≤ length changes
+some_remaining [] e = absurd (let h : true ≡ false = e in cc)
+some_remaining (change ∷ rest) e = omega arith
+
+-- the main line of a move counts for nothing where its bytes are read
+told_readable : (main : Option MainLine) (r : Report) (memory : List ℕ) → IsReadable r memory → IsReadable (told main r) memory
+told_readable None r memory h = h
+told_readable (Some main) r memory h = h
+
+-- a move was begun where nothing was told yet
+pub has_begun : {R : Type 0} (order : R → List ℕ) (k q : KernelState R) (g : Outcome) → k.tables.report ≡ nothing_told → IsBegun order k q g → (g.report.head ≡ Quiet → ⊥)
+    → HasBegun order k q g
 unfolding outcome
 has_begun order k q g untold begun main = record {
   owed = begun.owed;
   call = record {
-    begun = begun.begun;
-    can = begun.can;
-    readable = owed_readable (outcome order q.tables) (left q.rest) begun.can (untold_readable q.tables.report (view order q.tables).memory (ap (λ (x : Tables _). x.report) begun.tables ∙ untold));
+    begun = begun.main;
+    readable =
+        told_readable q.main (owed (outcome order q.tables) (remaining q.rest)).report (owed (outcome order q.tables) (remaining q.rest)).state.memory
+        (owed_readable (outcome order q.tables) (remaining q.rest) begun.can (untold_readable q.tables.report (view order q.tables).memory (ap (λ (x : Tables _). x.report) begun.tables ∙ untold)));
   };
-  few = few_left q.rest.noted.items q.rest.next begun.few;
+  some = some_remaining (remaining q.rest) begun.some;
+  few = few_remaining q.rest.noted.items q.rest.next begun.few;
+  shown = ap (view order) begun.tables;
   main = main;
 }
 
@@ -141,6 +144,6 @@ pub by_event : (s : State) (t : ℕ) (effect : Effect) → effect_at s t ≡ eff
 unfolding instruction
 by_event s t effect e = sym (ap (by_effect s t) e)
 
-pub begun_by : {R : Type 0} (order : R → List ℕ) (k q : Kernel R) (g h : Outcome) → k.tables.report ≡ nothing_told → IsBegun order k q g → IsMain g.report.head → g ≡ h
-    → BeginsInstruction order q h
-begun_by order k q g h untold begun main e = subst (BeginsInstruction order q) e (has_begun order k q g untold begun main.told, main.kind)
+pub begun_by : {R : Type 0} (order : R → List ℕ) (k q : KernelState R) (g h : Outcome) → k.tables.report ≡ nothing_told → IsBegun order k q g → IsMain g.report.head → g ≡ h
+    → BeginsInstruction order k q h
+begun_by order k q g h untold begun main e = subst (BeginsInstruction order k q) e (has_begun order k q g untold begun main.told, main.kind)

@@ -4,3 +4,4 @@ pub mod InstructionLemmas
 pub mod EngineLemmas
 pub mod StepLemmas
 pub mod RunLemmas
+pub mod WholeLemmas

@@ -15,36 +15,38 @@ use Rattle.posix_model.specs.declared.Report.{Report}
 use Rattle.trace_text.specs.Counting.{no_counts, is_delivery, counted, counts, told_of, told_by as added_by}
 use Rattle.trace_text.specs.declared.tally.Counts.{Counts}
 use Rattle.kernel_state.specs.View.{view}
-use Rattle.kernel_state.specs.Moves.{left, owed_by, told_by}
-use Rattle.kernel_state.specs.declared.kernel.Kernel.{Kernel}
-use Rattle.process_engine.specs.Engine.{Engine, owed_of, moment_of, position_of, IsAtRest, HasTurn, IsInCall}
+use Rattle.kernel_state.specs.Kernels.{KernelState, remaining, IsIdle, owed_by}
+use Rattle.process_engine.specs.Engine.{Engine, owed_of, moment_of, position_of, HasTurn, IsInCall}
 use Rattle.process_engine.specs.declared.stage.Advance.{Advance}
 use Rattle.process_engine.specs.declared.stage.Advance.TheVariants.{Plain, Switched, Begun, End}
 use Rattle.process_engine.specs.declared.stage.Stage.TheVariants.{Going, InCall}
 
 -- the thread in place made its instruction, which tells nothing, and still has its turn
-pub record HasGoneOn {R : Type 0} (order : R → List ℕ) (k q : Kernel R) : Type 0 where
+pub record HasGoneOn {R : Type 0} (order : R → List ℕ) (k q : KernelState R) : Type 0 where
   pub state : view order q.tables ≡ (instruction (view order k.tables) k.tables.placed).state
   pub tells : (instruction (view order k.tables) k.tables.placed).report ≡ record nothing_told { tid = k.tables.placed }
-  pub rest : IsAtRest q
+  pub rest : IsIdle q
   pub turn : HasTurn order q
   pub placed : q.tables.placed ≡ k.tables.placed
 
--- a move was begun that has a main line: it owes the machine this outcome, in 512 small changes at most
-pub record HasBegun {R : Type 0} (order : R → List ℕ) (q : Kernel R) (g : Outcome) : Type 0 where
-  pub owed : told_by q.tid q.head (owed_by order q) ≡ g
+-- a move was begun that has a main line: it owes the machine this outcome, in 512 small changes at most, and the
+-- tables show what they showed
+pub record HasBegun {R : Type 0} (order : R → List ℕ) (k q : KernelState R) (g : Outcome) : Type 0 where
+  pub owed : owed_by order q ≡ g
   pub call : IsInCall order q
-  pub few : length (left q.rest) ≤ 512
+  pub some : 1 ≤ length (remaining q.rest)
+  pub few : length (remaining q.rest) ≤ 512
+  pub shown : view order q.tables ≡ view order k.tables
   pub main : g.report.head ≡ Quiet → ⊥
 
 -- the same of an instruction: its main line is not that of a delivery
-abbrev pub BeginsInstruction : {R : Type 0} → (R → List ℕ) → Kernel R → Outcome → Type 0
-BeginsInstruction order q g = HasBegun order q g × (is_delivery g.report.head ≡ false)
+abbrev pub BeginsInstruction : {R : Type 0} → (R → List ℕ) → KernelState R → KernelState R → Outcome → Type 0
+BeginsInstruction order k q g = HasBegun order k q g × (is_delivery g.report.head ≡ false)
 
 -- the thread in place made its instruction where it was a plain one, and else its move was begun
-abbrev pub Instructs : {R : Type 0} → (R → List ℕ) → Kernel R → Bool → Kernel R → Type 0
+abbrev pub Instructs : {R : Type 0} → (R → List ℕ) → KernelState R → Bool → KernelState R → Type 0
 Instructs order k true q = HasGoneOn order k q
-Instructs order k false q = BeginsInstruction order q (instruction (view order k.tables) k.tables.placed)
+Instructs order k false q = BeginsInstruction order k q (instruction (view order k.tables) k.tables.placed)
 
 -- a move was made, or begun, that has its turn, with what it counts beside its instruction
 pub record MakesMove (p q : Engine) (head : Head) : Type 0 where
@@ -58,7 +60,8 @@ pub record MakesPlain (p q : Engine) : Type 0 where
   pub makes : MakesMove p q Quiet
   pub silent : lines (make (moment_of p).state makes.move).report (moment_of q).state.memory ≡ []
   pub stage : q.stage ≡ Going
-  pub none : (position_of q).left ≡ 0
+  pub none : (position_of q).remaining ≡ 0
+  pub shown : (position_of q).shown ≡ (moment_of q).state
 
 -- a move was begun that has a main line, and 512 small changes at most
 pub record BeginsMove (p q : Engine) : Type 0 where
@@ -66,11 +69,12 @@ pub record BeginsMove (p q : Engine) : Type 0 where
   pub told : (owed_of q).report ≡ (make (moment_of p).state makes.move).report
   pub main : (owed_of q).report.head ≡ Quiet → ⊥
   pub stage : q.stage ≡ InCall
-  pub some : 1 ≤ (position_of q).left
-  pub few : (position_of q).left ≤ 512
+  pub some : 1 ≤ (position_of q).remaining
+  pub few : (position_of q).remaining ≤ 512
+  pub shown : (position_of q).shown ≡ (position_of p).shown
 
 -- the run has ended here
-pub record HasEnded (p q : Engine) (ending : Ending) : Type 0 where
+pub record EndsHere (p q : Engine) (ending : Ending) : Type 0 where
   pub ends : Ends p.settings (moment_of p) ending
   pub same : q ≡ p
 
@@ -80,7 +84,7 @@ abbrev pub Advances : Engine → Advance → Engine → Type 0
 Advances p Plain q = MakesPlain p q × (q.last ≡ p.last)
 Advances p (Switched before) q = MakesPlain p q × (before ≡ p.last)
 Advances p (Begun before) q = BeginsMove p q × (before ≡ p.last)
-Advances p (End ending) q = HasEnded p q ending
+Advances p (End ending) q = EndsHere p q ending
 
 -- some moves were made, with what was told of them and their text
 pub record Makes (settings : Settings) (old new : Moment) (told : Counts) (trace : List ℕ) : Type 0 where

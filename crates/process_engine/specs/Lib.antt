@@ -1,3 +1,4 @@
 pub mod Engine
 pub mod Turns
 pub mod Advancing
+pub mod Whole

@@ -11,17 +11,18 @@ use Rattle.posix_model.specs.declared.Move.{Move}
 use Rattle.posix_model.specs.declared.Head.TheVariants.{Quiet as QuietHead}
 use Rattle.posix_model.specs.declared.Report.{Report}
 use Rattle.trace_text.specs.Counting.{counts}
+use Rattle.kernel_state.specs.Small.{IsSmall}
 use Rattle.process_engine.specs.Engine.{Position}
 use Rattle.process_engine.specs.declared.Turn.{Turn}
 use Rattle.process_engine.specs.declared.Turn.TheVariants.{Quiet, Made as MadeTurn, Ended}
 use Rattle.process_engine.specs.declared.Done.{Done}
 
--- what is to be told of a move: nothing, where it has no lines and none of it is left, and else its report, where
--- 512 small changes of it are left at most
-abbrev pub Tells : Report → Position → Type 0
-Tells report new =
-    ((new.telling ≡ None) × (lines report new.now.state.memory ≡ []) × (new.left ≡ 0))
-    ⊎ ((new.telling ≡ Some report) × (report.head ≡ QuietHead → ⊥) × (1 ≤ new.left) × (new.left ≤ 512))
+-- what is to be told of a move: nothing, where it has no lines and is made, and else its report, where the tables stay
+-- and 512 small changes of it are left at most
+abbrev pub Tells : Report → Position → Position → Type 0
+Tells report old new =
+    ((new.telling ≡ None) × (lines report new.now.state.memory ≡ []) × (new.remaining ≡ 0) × (new.shown ≡ new.now.state))
+    ⊎ ((new.telling ≡ Some report) × (report.head ≡ QuietHead → ⊥) × (1 ≤ new.remaining) × (new.remaining ≤ 512) × (new.shown ≡ old.shown))
 
 -- one move is made that is allowed, with what is to be told of it; none was in progress
 pub record Moves (settings : Settings) (old new : Position) : Type 0 where
@@ -29,7 +30,7 @@ pub record Moves (settings : Settings) (old new : Position) : Type 0 where
   pub move : Move
   pub allowed : Allowed settings old.now move
   pub leads : new.now ≡ moved old.now move
-  pub tells : Tells (make old.now.state move).report new
+  pub tells : Tells (make old.now.state move).report old new
 
 -- one small change of the move in progress is made and is not the last: the run and what is to be told of the move stay
 pub record Leaves (old new : Position) : Type 0 where
@@ -37,21 +38,24 @@ pub record Leaves (old new : Position) : Type 0 where
   pub report : Report
   pub before : old.telling ≡ Some report
   pub telling : new.telling ≡ Some report
-  pub one : old.left ≡ new.left + 1
-  pub more : 1 ≤ new.left
+  pub one : old.remaining ≡ new.remaining + 1
+  pub more : 1 ≤ new.remaining
+  pub small : IsSmall old.shown new.shown
 
 -- all that is left of the move in progress is made, and the move is told: the run stays
 pub record Completes (old : Position) (report : Report) (new : Position) : Type 0 where
   pub now : new.now ≡ old.now
   pub before : old.telling ≡ Some report
   pub telling : new.telling ≡ None
-  pub none : new.left ≡ 0
+  pub none : new.remaining ≡ 0
+  pub shown : new.shown ≡ new.now.state
   pub readable : IsReadable report new.now.state.memory
 
 -- the same by one small change, the last one
-pub record Told (old : Position) (report : Report) (new : Position) : Type 0 where
+pub record CompletesLast (old : Position) (report : Report) (new : Position) : Type 0 where
   pub completes : Completes old report new
-  pub last : old.left ≡ 1
+  pub last : old.remaining ≡ 1
+  pub small : IsSmall old.shown new.shown
 
 -- the run has ended, and nothing changes
 pub record Stops (settings : Settings) (old : Position) (ending : Ending) (new : Position) : Type 0 where
@@ -59,11 +63,12 @@ pub record Stops (settings : Settings) (old : Position) (ending : Ending) (new :
   pub ends : Ends settings old.now ending
   pub same : new ≡ old
 
--- one turn makes one move that is allowed, or one small change of the move in progress, or tells the ending: Made
+-- one turn makes or begins one move that is allowed, or makes one small change of the move in progress, or tells the
+-- ending: Made
 -- comes exactly with the last small change of a move, with its report, and Ended exactly where the run has ended
 abbrev pub IsTurn : Settings → Position → Turn → Position → Type 0
 IsTurn settings old Quiet new = Moves settings old new ⊎ Leaves old new
-IsTurn settings old (MadeTurn report) new = Told old report new
+IsTurn settings old (MadeTurn report) new = CompletesLast old report new
 IsTurn settings old (Ended ending) new = Stops settings old ending new
 
 -- the whole text of one ended run was written, and its counts are told

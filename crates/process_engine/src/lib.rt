@@ -4,6 +4,7 @@
 mod moves;
 mod process;
 mod stage;
+mod threads;
 mod told;
 
 use posix_model::{Ending, Report};

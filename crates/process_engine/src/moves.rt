@@ -1,12 +1,13 @@
 ghost use Rattle.std.specs.Prelude.{◌≡◌};
 ghost use Rattle.rv_exec.specs.declared.Event.TheVariants.{Next};
 ghost use Rattle.posix_model.specs.Calls.{call as call_of, call_number, arguments};
-ghost use Rattle.posix_model.specs.Good.{IsGood};
+ghost use Rattle.posix_model.specs.Reports.{nothing_told};
 ghost use Rattle.posix_model.specs.Instructions.{instruction};
-ghost use Rattle.kernel_state.specs.View.{view, StayCurrent};
+ghost use Rattle.kernel_state.specs.View.{view};
 ghost use Rattle.kernel_state.specs.Begun.{CanBegin, IsBegun, arguments_of};
 ghost use Rattle.kernel_state.specs.Executing.{HasExecuted};
-ghost use Rattle.process_engine.specs.Engine.{IsAtRest, HasTurn};
+ghost use Rattle.kernel_state.specs.Kernels.{IsIdle};
+ghost use Rattle.process_engine.specs.Engine.{HasTurn};
 ghost use Rattle.process_engine.specs.Advancing.{BeginsInstruction, Instructs};
 
 use kernel_state::Kernel;
@@ -14,7 +15,7 @@ use ready_queues::Ready;
 use rv_exec::Event;
 use thread_base::{CallNo, Family, Tid};
 
-/// Begins the call of a number, of a thread that is ready, in the part of the kernel that has it.
+/// Begins the call of a number, of the chosen thread, in the part of the kernel that has it.
 fn begin_number<R: Ready + Drop>(k: &mut Kernel<R>, t: Tid, number: u32, args: [u32; 4])
     requires { CanBegin R.order k.old t }
     ensures { IsBegun R.order k.old k.new (call_of (view R.order k.old.tables) t number (arguments_of args)) }
@@ -29,7 +30,7 @@ fn begin_number<R: Ready + Drop>(k: &mut Kernel<R>, t: Tid, number: u32, args: [
     }
 }
 
-/// Begins the call at which a thread stands that is ready: its number stands in a7, its arguments in a0 to a3.
+/// Begins the call at which the chosen thread stands: its number stands in a7, its arguments in a0 to a3.
 fn begin_call<R: Ready + Drop>(k: &mut Kernel<R>, t: Tid)
     requires { CanBegin R.order k.old t }
     ensures { IsBegun R.order k.old k.new (call_of (view R.order k.old.tables) t (call_number ((view R.order k.old.tables).threads t).registers) (arguments ((view R.order k.old.tables).threads t).registers)) }
@@ -38,13 +39,13 @@ fn begin_call<R: Ready + Drop>(k: &mut Kernel<R>, t: Tid)
     begin_number(k, t, x[17], [x[10], x[11], x[12], x[13]]);
 }
 
-/// Begins the move of an instruction that was no plain one, as its event tells, of a thread that is ready.
+/// Begins the move of an instruction that was no plain one, as its event tells, of the chosen thread.
 fn begin_move<R: Ready + Drop>(k: &mut Kernel<R>, t: Tid, event: Event)
     requires ready { CanBegin R.order k.old t }
     requires event { HasExecuted (view R.order k.old.tables) t event (view R.order k.old.tables) }
     requires asks { event ≡ Next → ⊥ }
-    ensures begun { BeginsInstruction R.order k.new (instruction (view R.order k.old.tables) t) }
-    ensures tables { k.new.tables ≡ k.old.tables }
+    requires untold { k.old.tables.report ≡ nothing_told }
+    ensures { BeginsInstruction R.order k.old k.new (instruction (view R.order k.old.tables) t) }
 {
     match event {
         Event::Next => unreachable!(),
@@ -58,11 +59,9 @@ fn begin_move<R: Ready + Drop>(k: &mut Kernel<R>, t: Tid, event: Event)
 /// move. Whether it was a plain one.
 #[inline(always)]
 pub(crate) fn make_instruction<R: Ready + Drop>(k: &mut Kernel<R>) -> bool
-    requires rest { IsAtRest k.old }
+    requires idle { IsIdle k.old }
     requires turn { HasTurn R.order k.old }
-    requires good { IsGood (view R.order k.old.tables) }
-    ensures made { Instructs R.order k.old result k.new }
-    ensures current { StayCurrent R.order R.prio k.old.tables k.new.tables }
+    ensures { Instructs R.order k.old result k.new }
 {
     match k.execute() {
         Event::Next => true,

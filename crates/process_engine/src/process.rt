@@ -27,7 +27,8 @@ use thread_base::{NoMemory, Tid};
 use trace_text::{Counts, Mode, put_end, put_report, put_run};
 
 /// A process: its kernel, and what its run has come to. Clauses see its position: the run so far with the move in
-/// progress, what is still to be told of that move, and how many small changes of it are left.
+/// progress, what is still to be told of that move, how many small changes of it are left, and the state that the
+/// tables show.
 #[derive(Drop)]
 pub struct Process {
     kernel: Kernel<PlainReady>,
@@ -128,13 +129,13 @@ impl Process {
         }
         match self.kernel.tables().fault() {
             Some(fault) => {
-                self.kernel.note_delivery(fault);
+                self.kernel.begin_delivery(fault);
                 self.stage = Stage::InCall;
                 return Advance::Begun(self.last);
             }
             None => {}
         }
-        match self.kernel.tables().chosen() {
+        match self.kernel.chosen() {
             Some(t) => self.switch_to(t),
             None => Advance::End(Ending::Idle),
         }
@@ -189,7 +190,7 @@ impl Process {
         ensures turn { IsTurn self.old.settings (position_of self.old) result (position_of self.new) }
         ensures settings { self.new.settings ≡ self.old.settings }
     {
-        match self.kernel.step_move() {
+        match self.kernel.step() {
             Stepped::More => Turn::Quiet,
             Stepped::Exit(report) => {
                 self.stage = Stage::Paused;
@@ -198,8 +199,8 @@ impl Process {
         }
     }
 
-    /// Makes one instruction, or one small change of a move in progress, or tells the ending. Made comes exactly
-    /// with the last change of a move, with its report; Ended comes exactly where the run has ended; Quiet
+    /// Makes one plain instruction, begins one move, makes one small change of the move in progress, or tells the
+    /// ending. Made comes exactly with the last change of a move, with its report; Ended comes exactly where the run has ended; Quiet
     /// exactly where the turn completed no move with lines and told no ending.
     pub fn turn(&mut self) -> Turn
         ensures turn { IsTurn self.old.settings (position_of self.old) result (position_of self.new) }
@@ -240,11 +241,18 @@ impl Process {
     }
 
     /// The tables, where no move is in progress.
-    fn tables(&self) -> &Tables<PlainReady>
+    pub(crate) fn tables(&self) -> &Tables<PlainReady>
         requires { (position_of self.now).telling ≡ None }
         ensures { view order result.now ≡ (moment_of self.now).state }
     {
         self.kernel.tables()
+    }
+
+    /// The thread that made the last instruction; None exactly where none was made.
+    pub fn last(&self) -> Option<Tid>
+        ensures { result ≡ self.now.last }
+    {
+        self.last
     }
 
     /// Writes the text of a move that was made with this report.

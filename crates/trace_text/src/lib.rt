@@ -7,7 +7,7 @@ mod output;
 mod report;
 mod tally;
 
-pub use line::put_line;
+pub use line::{Line, put_line};
 pub use report::{put_end, put_report, put_run};
 pub use tally::Counts;
 

@@ -8,13 +8,13 @@ use Rattle.process_engine.proofs.StepLemmas.{finish_sound, completes}
 use Rattle.process_engine.proofs.process.Process.finish.Goals as goal
 
 pub finish-report-requires : goal.finish-report-requires
-finish-report-requires c = (stands_at (the_view c.self.inside) InCall c.self.invariant (ap (λ (x : Engine). x.stage) c.self.view_is ∙ c.requires)).can
+finish-report-requires c = (stands_at (the_view c.self.inside) InCall c.self.invariant (ap (λ (x : Engine). x.stage) c.self.view_is ∙ c.requires)).begun
 
 pub invariant_of-self : goal.invariant_of-self
 invariant_of-self c =
     let calling = ap (λ (x : Engine). x.stage) c.self.view_is ∙ c.requires in
     let all = c.finish-report.ensures in
-    finish_sound (the_view c.self.inside) c.finish-report.new.self c.self.invariant calling all.current c.finish-report.result all.state all.report all.idle all.untold
+    finish_sound (the_view c.self.inside) c.finish-report.new.self c.self.invariant calling c.finish-report.result all.state all.report all.idle
 
 pub returns-clause-completes : goal.returns-clause-completes
 returns-clause-completes c =
@@ -22,4 +22,4 @@ returns-clause-completes c =
     let all = c.finish-report.ensures in
     let q : Engine = record { kernel = c.finish-report.new.self; instructions = c.self.inside.instructions; last = c.self.inside.last; stage = Paused; settings = c.self.inside.settings } in
     subst (λ x. Completes (position_of x) c.finish-report.result (position_of q)) c.self.view_is
-    (completes (the_view c.self.inside) c.finish-report.new.self c.self.invariant calling all.current c.finish-report.result all.state all.report all.idle all.untold)
+    (completes (the_view c.self.inside) c.finish-report.new.self c.self.invariant calling c.finish-report.result all.state all.report all.idle)

@@ -2,7 +2,7 @@ use Rattle.std.proofs.Common.{◌∙◌, ap, refl}
 use Rattle.process_engine.specs.Engine.{Engine}
 use Rattle.process_engine.specs.declared.stage.Stage.TheVariants.{Going}
 use Rattle.process_engine.specs.contracts.process.Process.{the_view}
-use Rattle.process_engine.proofs.EngineLemmas.{stands_at, good_at_rest, going_turn, is_spent, goes_plain, goes_begun, plain_sound, begun_sound}
+use Rattle.process_engine.proofs.EngineLemmas.{stands_at, going_turn, is_spent, goes_plain, goes_begun, plain_sound, begun_sound}
 use Rattle.process_engine.proofs.process.Process.instruction.Goals as goal
 
 pub returns-then-self-clause-advances : goal.returns-then-self-clause-advances
@@ -15,7 +15,7 @@ pub make_instruction-requires : goal.make_instruction-requires
 make_instruction-requires c =
     let p = the_view c.self.inside in
     let on = stands_at p Going c.self.invariant (ap (λ (x : Engine). x.stage) c.self.view_is ∙ c.requires) in
-    record { rest = on.0; turn = on.1; good = good_at_rest p c.self.invariant on.0 }
+    record { idle = on.0; turn = on.1 }
 
 pub returns-then-make_instruction-clause-advances : goal.returns-then-make_instruction-clause-advances
 returns-then-make_instruction-clause-advances c =
@@ -23,7 +23,7 @@ returns-then-make_instruction-clause-advances c =
     let going = ap (λ (x : Engine). x.stage) c.self.view_is ∙ c.requires in
     let on = going_turn p c.self.invariant going in
     goes_plain p c.args.self.now c.self.view_is _ c.self.invariant on.0 c.if-self.false c.self.inside.kernel c.make_instruction.new.k refl refl
-    c.make_instruction.ensures.current c.self.inside.last on.1 c.if-make_instruction.ensures.made c.self.inside.stage going refl
+    c.self.inside.last on.1 c.if-make_instruction.ensures c.self.inside.stage going refl
 
 pub invariant_of-self : goal.invariant_of-self
 invariant_of-self c =
@@ -31,7 +31,7 @@ invariant_of-self c =
     let going = ap (λ (x : Engine). x.stage) c.self.view_is ∙ c.requires in
     let on = going_turn p c.self.invariant going in
     plain_sound p c.args.self.now c.self.view_is _ c.self.invariant on.0 c.if-self.false c.self.inside.kernel c.make_instruction.new.k refl refl
-    c.make_instruction.ensures.current c.self.inside.last on.1 c.if-make_instruction.ensures.made c.self.inside.stage going
+    c.self.inside.last on.1 c.if-make_instruction.ensures c.self.inside.stage going
 
 pub returns-clause-advances : goal.returns-clause-advances
 returns-clause-advances c =
@@ -39,7 +39,7 @@ returns-clause-advances c =
     let going = ap (λ (x : Engine). x.stage) c.self.view_is ∙ c.requires in
     let on = going_turn p c.self.invariant going in
     goes_begun p c.args.self.now c.self.view_is _ c.self.invariant on.0 c.if-self.false c.self.inside.kernel c.make_instruction.new.k refl refl
-    c.make_instruction.ensures.current c.self.inside.last on.1 c.if-make_instruction.ensures.made
+    c.self.inside.last on.1 c.if-make_instruction.ensures
 
 pub invariant_of-self-2 : goal.invariant_of-self-2
 invariant_of-self-2 c =
@@ -47,4 +47,4 @@ invariant_of-self-2 c =
     let going = ap (λ (x : Engine). x.stage) c.self.view_is ∙ c.requires in
     let on = going_turn p c.self.invariant going in
     begun_sound p c.args.self.now c.self.view_is _ c.self.invariant on.0 c.if-self.false c.self.inside.kernel c.make_instruction.new.k refl refl
-    c.make_instruction.ensures.current c.self.inside.last on.1 c.if-make_instruction.ensures.made
+    c.self.inside.last on.1 c.if-make_instruction.ensures

@@ -1,5 +1,4 @@
 use Rattle.std.proofs.Common.{◌∙◌, subst, sym, arith, None}
-use Rattle.posix_model.specs.Good.{IsGood}
 use Rattle.process_engine.specs.Engine.{Engine}
 use Rattle.process_engine.specs.declared.stage.Stage.TheVariants.{Paused}
 use Rattle.process_engine.proofs.EngineLemmas.{moment_state}
@@ -8,13 +7,10 @@ use Rattle.process_engine.proofs.process.Process.new.Goals as goal
 pub invariant_of-result : goal.invariant_of-result
 invariant_of-result c =
     let start = c.in_ok-new-2.ensures in
-    let q : Engine = record { kernel = c.in_ok-new-2.field-0; instructions = 0; last = None; stage = Paused; settings = c.args.settings } in
     record {
       within = omega arith;
       limit = c.requires.budget;
-      good = subst IsGood (sym (moment_state q start.idle)) start.ready.good;
-      current = start.current;
-      stands = record { idle = start.idle; untold = start.untold };
+      stands = start.idle;
     }
 
 pub returns-clause-start : goal.returns-clause-start

@@ -6,6 +6,8 @@ use Rattle.kernel_state.specs.declared.tables.Tables.{Tables}
 use Rattle.process_engine.specs.Engine.{Engine, order}
 use Rattle.process_engine.specs.declared.stage.Stage.TheVariants.{Paused}
 use Rattle.process_engine.specs.contracts.process.Process.{the_view}
+use Rattle.ready_queues.specs.Queue.{level_of}
+use Rattle.kernel_state.proofs.KernelLemmas.{rests}
 use Rattle.process_engine.proofs.EngineLemmas.{stands_at, is_over, is_idle, delivers, delivers_sound}
 use Rattle.process_engine.proofs.process.Process.resume.Goals as goal
 
@@ -13,29 +15,31 @@ pub returns-in-Some-clause-advances : goal.returns-in-Some-clause-advances
 returns-in-Some-clause-advances c =
     let p = the_view c.self.inside in
     let rest = stands_at p Paused c.self.invariant (ap (λ (x : Engine). x.stage) c.self.view_is ∙ c.requires) in
-    is_over p c.args.self.now c.in-Some.ending c.self.view_is rest (ap (λ (t : Tables _). (view order t).over) (sym c.tables.ensures) ∙ sym c.over.ensures ∙ c.in-Some.is)
+    is_over p c.args.self.now c.in-Some.ending c.self.view_is rest (ap (λ (t : Tables _). (view order t).over) (sym c.tables.ensures.tables) ∙ sym c.over.ensures ∙ c.in-Some.is)
 
 pub invariant_of-self : goal.invariant_of-self
 invariant_of-self c =
     let p = the_view c.self.inside in
     let rest = stands_at p Paused c.self.invariant (ap (λ (x : Engine). x.stage) c.self.view_is ∙ c.requires) in
-    let over = ap (λ (t : Tables _). (view order t).over) (sym c.tables.ensures) ∙ sym c.over.ensures ∙ c.in-None.is in
-    let next = ap (λ (t : Tables _). next_delivery (view order t)) (sym c.tables-2.ensures) ∙ c.in-Some-fault.ensures.next in
-    delivers_sound p c.args.self.now c.self.view_is c.in-Some-fault.fault.thread c.in-Some-fault.fault.signal c.self.invariant rest over next c.note_delivery.new.self c.note_delivery.ensures
+    let over = ap (λ (t : Tables _). (view order t).over) (sym c.tables.ensures.tables) ∙ sym c.over.ensures ∙ c.in-None.is in
+    let untold = (rests order level_of _ c.tables.ensures.sound rest.main).1 in
+    let next = ap (λ (t : Tables _). next_delivery (view order t)) (sym c.tables-2.ensures.tables) ∙ c.in-Some-fault.ensures.next in
+    delivers_sound p c.args.self.now c.self.view_is c.in-Some-fault.fault.thread c.in-Some-fault.fault.signal c.self.invariant rest untold over next c.begin_delivery.new.self c.begin_delivery.ensures
 
 pub returns-in-Some-fault-clause-advances : goal.returns-in-Some-fault-clause-advances
 returns-in-Some-fault-clause-advances c =
     let p = the_view c.self.inside in
     let rest = stands_at p Paused c.self.invariant (ap (λ (x : Engine). x.stage) c.self.view_is ∙ c.requires) in
-    let over = ap (λ (t : Tables _). (view order t).over) (sym c.tables.ensures) ∙ sym c.over.ensures ∙ c.in-None.is in
-    let next = ap (λ (t : Tables _). next_delivery (view order t)) (sym c.tables-2.ensures) ∙ c.in-Some-fault.ensures.next in
-    delivers p c.args.self.now c.self.view_is c.in-Some-fault.fault.thread c.in-Some-fault.fault.signal c.self.invariant rest over next c.note_delivery.new.self c.note_delivery.ensures
+    let over = ap (λ (t : Tables _). (view order t).over) (sym c.tables.ensures.tables) ∙ sym c.over.ensures ∙ c.in-None.is in
+    let untold = (rests order level_of _ c.tables.ensures.sound rest.main).1 in
+    let next = ap (λ (t : Tables _). next_delivery (view order t)) (sym c.tables-2.ensures.tables) ∙ c.in-Some-fault.ensures.next in
+    delivers p c.args.self.now c.self.view_is c.in-Some-fault.fault.thread c.in-Some-fault.fault.signal c.self.invariant rest untold over next c.begin_delivery.new.self c.begin_delivery.ensures
 
 pub returns-in-None-chosen-clause-advances : goal.returns-in-None-chosen-clause-advances
 returns-in-None-chosen-clause-advances c =
     let p = the_view c.self.inside in
     let rest = stands_at p Paused c.self.invariant (ap (λ (x : Engine). x.stage) c.self.view_is ∙ c.requires) in
     is_idle p c.args.self.now c.self.view_is rest
-    (ap (λ (t : Tables _). (view order t).over) (sym c.tables.ensures) ∙ sym c.over.ensures ∙ c.in-None.is)
-    (ap (λ (t : Tables _). (view order t).pending) (sym c.tables-2.ensures) ∙ c.in-None-fault.ensures.pending)
-    (ap (λ (t : Tables _). chosen (view order t)) (sym c.tables-3.ensures) ∙ sym c.chosen.ensures ∙ c.in-None-chosen.is)
+    (ap (λ (t : Tables _). (view order t).over) (sym c.tables.ensures.tables) ∙ sym c.over.ensures ∙ c.in-None.is)
+    (ap (λ (t : Tables _). (view order t).pending) (sym c.tables-2.ensures.tables) ∙ c.in-None-fault.ensures.pending)
+    (sym c.chosen.ensures ∙ c.in-None-chosen.is)

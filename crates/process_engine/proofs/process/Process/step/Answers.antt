@@ -1,28 +1,32 @@
 use Rattle.std.proofs.Common.{◌∙◌, ap, subst, inr, length}
 use Rattle.process_engine.specs.Engine.{Engine, position_of}
-use Rattle.process_engine.specs.Turns.{Leaves, Told}
-use Rattle.process_engine.specs.declared.stage.Stage.TheVariants.{Paused}
+use Rattle.process_engine.specs.Turns.{Leaves, CompletesLast}
+use Rattle.process_engine.specs.declared.stage.Stage.TheVariants.{Paused, InCall}
 use Rattle.process_engine.specs.contracts.process.Process.{the_view}
+use Rattle.process_engine.proofs.EngineLemmas.{stands_at}
 use Rattle.process_engine.proofs.StepLemmas.{step_sound, leaves, finish_sound, completes}
 use Rattle.process_engine.proofs.process.Process.step.Goals as goal
+
+pub step-requires : goal.step-requires
+step-requires c = (stands_at (the_view c.self.inside) InCall c.self.invariant (ap (λ (x : Engine). x.stage) c.self.view_is ∙ c.requires)).begun
 
 pub invariant_of-self : goal.invariant_of-self
 invariant_of-self c =
     let calling = ap (λ (x : Engine). x.stage) c.self.view_is ∙ c.requires in
-    step_sound (the_view c.self.inside) c.step_move.new.self c.self.invariant calling c.step_move.ensures.current c.in-More.ensures.step
+    step_sound (the_view c.self.inside) c.step.new.self c.self.invariant calling c.in-More.ensures.step c.step.ensures.small
 
 pub invariant_of-self-in-Exit : goal.invariant_of-self-in-Exit
 invariant_of-self-in-Exit c =
     let calling = ap (λ (x : Engine). x.stage) c.self.view_is ∙ c.requires in
     let told = c.in-Exit.ensures.step.0 in
     let last = c.in-Exit.ensures.step.1 in
-    finish_sound (the_view c.self.inside) c.step_move.new.self c.self.invariant calling c.step_move.ensures.current c.in-Exit.report last.view_is told last.idle last.untold
+    finish_sound (the_view c.self.inside) c.step.new.self c.self.invariant calling c.in-Exit.report last.view_is told last.idle
 
 pub returns-in-More-clause-turn : goal.returns-in-More-clause-turn
 returns-in-More-clause-turn c =
     let calling = ap (λ (x : Engine). x.stage) c.self.view_is ∙ c.requires in
     let q : Engine = record {
-      kernel = c.step_move.new.self;
+      kernel = c.step.new.self;
       instructions = c.self.inside.instructions;
       last = c.self.inside.last;
       stage = c.self.inside.stage;
@@ -30,7 +34,7 @@ returns-in-More-clause-turn c =
     } in
     inr (
     subst (λ x. Leaves (position_of x) (position_of q)) c.self.view_is
-    (leaves (the_view c.self.inside) c.step_move.new.self c.self.invariant calling c.step_move.ensures.current c.in-More.ensures.step))
+    (leaves (the_view c.self.inside) c.step.new.self c.self.invariant calling c.in-More.ensures.step c.step.ensures.small))
 
 pub returns-in-Exit-clause-turn : goal.returns-in-Exit-clause-turn
 returns-in-Exit-clause-turn c =
@@ -38,14 +42,15 @@ returns-in-Exit-clause-turn c =
     let told = c.in-Exit.ensures.step.0 in
     let last = c.in-Exit.ensures.step.1 in
     let q : Engine = record {
-      kernel = c.step_move.new.self;
+      kernel = c.step.new.self;
       instructions = c.self.inside.instructions;
       last = c.self.inside.last;
       stage = Paused;
       settings = c.self.inside.settings;
     } in
-    subst (λ x. Told (position_of x) c.in-Exit.report (position_of q)) c.self.view_is
+    subst (λ x. CompletesLast (position_of x) c.in-Exit.report (position_of q)) c.self.view_is
     (record {
-      completes = completes (the_view c.self.inside) c.step_move.new.self c.self.invariant calling c.step_move.ensures.current c.in-Exit.report last.view_is told last.idle last.untold;
+      completes = completes (the_view c.self.inside) c.step.new.self c.self.invariant calling c.in-Exit.report last.view_is told last.idle;
       last = ap length last.last;
+      small = c.step.ensures.small;
     })

@@ -1,7 +1,7 @@
 use Rattle.std.proofs.Common.{refl, Some}
 use Rattle.process_engine.specs.declared.stage.Stage.TheVariants.{Going}
 use Rattle.process_engine.specs.contracts.process.Process.{the_view}
-use Rattle.process_engine.proofs.EngineLemmas.{chosen_turn, placed_rest, placed_turn, is_spent, goes_switched, goes_begun, plain_sound, begun_sound}
+use Rattle.process_engine.proofs.EngineLemmas.{chosen_turn, placed_idle, placed_turn, is_spent, goes_switched, goes_begun, plain_sound, begun_sound}
 use Rattle.process_engine.proofs.process.Process.switch_to.Goals as goal
 
 pub returns-then-self-clause-advances : goal.returns-then-self-clause-advances
@@ -16,9 +16,11 @@ make_instruction-requires c =
     let p = the_view c.self.inside in
     let here = c.requires in
     let turn = chosen_turn p c.args.self.now c.args.t c.self.view_is c.self.invariant here.rest here.going_on here.calm here.chosen in
-    let rest = placed_rest p c.args.t c.self.invariant turn c.place.new.self c.place.ensures.view c.place.ensures.placed c.place.ensures.report c.place.ensures.others in
-    let has = placed_turn p c.args.t c.self.invariant turn c.place.new.self c.place.ensures.view c.place.ensures.placed c.place.ensures.report c.place.ensures.others in
-    record { rest = rest; turn = has.0; good = has.1 }
+    let placed = c.place.ensures in
+    record {
+      idle = placed_idle p c.args.t turn c.place.new.self placed.view placed.placed placed.others;
+      turn = placed_turn p c.args.t turn c.place.new.self placed.view placed.placed placed.others;
+    }
 
 pub returns-then-make_instruction-clause-advances : goal.returns-then-make_instruction-clause-advances
 returns-then-make_instruction-clause-advances c =
@@ -26,7 +28,7 @@ returns-then-make_instruction-clause-advances c =
     let here = c.requires in
     let turn = chosen_turn p c.args.self.now c.args.t c.self.view_is c.self.invariant here.rest here.going_on here.calm here.chosen in
     goes_switched p c.args.self.now c.self.view_is c.args.t c.self.invariant turn c.if-self.false c.place.new.self c.make_instruction.new.k c.place.ensures.view c.place.ensures.placed
-    (λ h. c.make_instruction.ensures.current (c.place.ensures.current h)) (Some c.args.t) refl c.if-make_instruction.ensures.made Going refl
+    (Some c.args.t) refl c.if-make_instruction.ensures Going refl
 
 pub invariant_of-self : goal.invariant_of-self
 invariant_of-self c =
@@ -34,7 +36,7 @@ invariant_of-self c =
     let here = c.requires in
     let turn = chosen_turn p c.args.self.now c.args.t c.self.view_is c.self.invariant here.rest here.going_on here.calm here.chosen in
     plain_sound p c.args.self.now c.self.view_is c.args.t c.self.invariant turn c.if-self.false c.place.new.self c.make_instruction.new.k c.place.ensures.view c.place.ensures.placed
-    (λ h. c.make_instruction.ensures.current (c.place.ensures.current h)) (Some c.args.t) refl c.if-make_instruction.ensures.made Going refl
+    (Some c.args.t) refl c.if-make_instruction.ensures Going refl
 
 pub returns-clause-advances : goal.returns-clause-advances
 returns-clause-advances c =
@@ -42,7 +44,7 @@ returns-clause-advances c =
     let here = c.requires in
     let turn = chosen_turn p c.args.self.now c.args.t c.self.view_is c.self.invariant here.rest here.going_on here.calm here.chosen in
     goes_begun p c.args.self.now c.self.view_is c.args.t c.self.invariant turn c.if-self.false c.place.new.self c.make_instruction.new.k c.place.ensures.view c.place.ensures.placed
-    (λ h. c.make_instruction.ensures.current (c.place.ensures.current h)) (Some c.args.t) refl c.if-make_instruction.ensures.made
+    (Some c.args.t) refl c.if-make_instruction.ensures
 
 pub invariant_of-self-2 : goal.invariant_of-self-2
 invariant_of-self-2 c =
@@ -50,4 +52,4 @@ invariant_of-self-2 c =
     let here = c.requires in
     let turn = chosen_turn p c.args.self.now c.args.t c.self.view_is c.self.invariant here.rest here.going_on here.calm here.chosen in
     begun_sound p c.args.self.now c.self.view_is c.args.t c.self.invariant turn c.if-self.false c.place.new.self c.make_instruction.new.k c.place.ensures.view c.place.ensures.placed
-    (λ h. c.make_instruction.ensures.current (c.place.ensures.current h)) (Some c.args.t) refl c.if-make_instruction.ensures.made
+    (Some c.args.t) refl c.if-make_instruction.ensures

@@ -8,4 +8,4 @@ use Rattle.process_engine.proofs.process.Process.tables.Goals as goal
 pub returns : goal.returns
 returns c =
     let rest = rest_stands (the_view c.self.inside) c.self.invariant (ap (λ (x : Engine). (position_of x).telling) c.self.view_is ∙ c.requires) in
-    ap (view order) c.tables.ensures ∙ sym (moment_state (the_view c.self.inside) rest.idle) ∙ ap (λ (x : Engine). (moment_of x).state) c.self.view_is
+    ap (view order) c.tables.ensures.tables ∙ sym (moment_state (the_view c.self.inside) rest) ∙ ap (λ (x : Engine). (moment_of x).state) c.self.view_is

@@ -1,0 +1,55 @@
+ghost use Rattle.std.specs.Prelude.{◌≡◌, None, IfSome, is_some};
+ghost use Rattle.posix_model.specs.Threads.{exists};
+ghost use Rattle.posix_model.specs.Trace.{left};
+ghost use Rattle.kernel_state.specs.View.{thread_in};
+ghost use Rattle.process_engine.specs.Engine.{moment_of, position_of};
+ghost use Rattle.process_engine.specs.Whole.{RunsToEnd};
+
+use crate::Turn;
+use crate::process::Process;
+use kernel_state::ThreadRecord;
+use posix_model::Ending;
+use rv_exec::Memory;
+use thread_base::Tid;
+
+impl Process {
+    /// Makes the rest of the run, and tells how it ended. Nothing is written, and no memory is taken.
+    pub fn run_to_end(&mut self) -> Ending
+        ensures ran { RunsToEnd self.old.settings (moment_of self.old) result (moment_of self.new) }
+        ensures at_rest { (position_of self.new).telling ≡ None }
+        ensures settings { self.new.settings ≡ self.old.settings }
+    {
+        loop {
+            match self.turn() {
+                Turn::Quiet => {}
+                Turn::Made(_) => {}
+                Turn::Ended(ending) => return ending,
+            }
+        }
+    }
+
+    /// What is kept of a thread, where no move is in progress; None exactly where there is none.
+    pub fn find(&self, t: Tid) -> Option<ThreadRecord>
+        requires { (position_of self.now).telling ≡ None }
+        ensures thread { IfSome result (λ k. thread_in k ≡ (moment_of self.now).state.threads t) }
+        ensures there { is_some result ≡ exists (moment_of self.now).state t }
+    {
+        self.tables().find(t)
+    }
+
+    /// The memory, where no move is in progress.
+    pub fn memory(&self) -> &Memory
+        requires { (position_of self.now).telling ≡ None }
+        ensures { result.now ≡ (moment_of self.now).state.memory }
+    {
+        self.tables().memory()
+    }
+
+    /// How many of each signal still pend, over all threads, where no move is in progress.
+    pub fn left(&self) -> [u64; 32]
+        requires { (position_of self.now).telling ≡ None }
+        ensures { result ≡ left (moment_of self.now).state }
+    {
+        self.tables().left()
+    }
+}
