@@ -44,7 +44,7 @@ fn read_words(rt: &HostRuntime, alloc: Global) -> Result<Words, WordsError> {
 
 /// Tells that memory ran out, and gives the exit code.
 fn no_memory<E: Sink>(err: &mut E) -> ExitCode {
-    let _ = Failure::Memory.put_line(err);
+    let _ = Failure::Memory.put_line("fsu_replay", err);
     ExitCode::from(Status::NoMemory.code())
 }
 

@@ -1,1 +1,2 @@
 pub mod FailureLines
+pub mod PlaceLines

@@ -52,12 +52,12 @@ abbrev pub Tells : Option (List ℕ) → Option (List ℕ) → ℕ → ℕ → L
 Tells before after faults_before faults_after text =
     WritesWhole before after faults_before faults_after text ⊎ WritesFront before after faults_before faults_after text
 
--- a failure has its cause, is told by its status, and by its line on the error sink
-pub record Fails (status : Status) (IsCause : Failure → Type 0) (before after : Option (List ℕ)) (faults_before faults_after : ℕ) : Type 0 where
+-- a failure has its cause, is told by its status, and by its line on the error sink, with the program's name
+pub record Fails (program : List ℕ) (status : Status) (IsCause : Failure → Type 0) (before after : Option (List ℕ)) (faults_before faults_after : ℕ) : Type 0 where
   pub failure : Failure
   pub cause : IsCause failure
   pub status_tells : status ≡ status_of failure
-  pub line_tells : Tells before after faults_before faults_after (line_of failure)
+  pub line_tells : Tells before after faults_before faults_after (line_of program failure)
 
 -- words, image and journal are accepted, and no count of faults rose
 pub record IsSmooth (words : List (List ℕ)) (content : List ℕ → Option (List ℕ)) (before after : List ℕ → ℕ) (out_before out_after : ℕ) : Type 0 where

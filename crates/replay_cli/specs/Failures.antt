@@ -1,5 +1,5 @@
 -- Why a replay did not run to its end, its status, and the line that tells it (this project's own texts).
-use Rattle.std.specs.Prelude.{ℕ, List, [], ◌∷◌, codes}
+use Rattle.std.specs.Prelude.{ℕ, List, [], ◌∷◌, ◌++◌, codes}
 use Rattle.elf_image.specs.declared.refusal.ImageRefusal.{ImageRefusal}
 use Rattle.elf_image.specs.declared.refusal.ImageRefusal.TheVariants.{TooLong, Short, Magic, Class, Order, Version, FileType, Machine, Flags, HeaderSize, SegmentCount, TableOutOfFile, Dynamic, SegmentOutOfFile, SizeAboveMemory, OutsideWindow, Entry}
 use Rattle.posix_model.specs.Lines.{line}
@@ -30,38 +30,42 @@ status_of (Journal refusal) = JournalStatus
 status_of Output = WriteFault
 status_of Memory = NoMemory
 
--- the line of a refused image: the refusal's name, and its index where it has one
+-- the line of a refused image, without the name of the program: the refusal's name, and its index where it has one
 unfoldable pub image_line : ImageRefusal → List ℕ
-image_line TooLong = line (codes "fsu_replay: image refused: TooLong") []
-image_line Short = line (codes "fsu_replay: image refused: Short") []
-image_line Magic = line (codes "fsu_replay: image refused: Magic") []
-image_line Class = line (codes "fsu_replay: image refused: Class") []
-image_line Order = line (codes "fsu_replay: image refused: Order") []
-image_line Version = line (codes "fsu_replay: image refused: Version") []
-image_line FileType = line (codes "fsu_replay: image refused: FileType") []
-image_line Machine = line (codes "fsu_replay: image refused: Machine") []
-image_line Flags = line (codes "fsu_replay: image refused: Flags") []
-image_line HeaderSize = line (codes "fsu_replay: image refused: HeaderSize") []
-image_line SegmentCount = line (codes "fsu_replay: image refused: SegmentCount") []
-image_line TableOutOfFile = line (codes "fsu_replay: image refused: TableOutOfFile") []
-image_line (Dynamic i) = line (codes "fsu_replay: image refused: Dynamic") (i ∷ [])
-image_line (SegmentOutOfFile i) = line (codes "fsu_replay: image refused: SegmentOutOfFile") (i ∷ [])
-image_line (SizeAboveMemory i) = line (codes "fsu_replay: image refused: SizeAboveMemory") (i ∷ [])
-image_line (OutsideWindow i) = line (codes "fsu_replay: image refused: OutsideWindow") (i ∷ [])
-image_line Entry = line (codes "fsu_replay: image refused: Entry") []
+image_line TooLong = line (codes ": image refused: TooLong") []
+image_line Short = line (codes ": image refused: Short") []
+image_line Magic = line (codes ": image refused: Magic") []
+image_line Class = line (codes ": image refused: Class") []
+image_line Order = line (codes ": image refused: Order") []
+image_line Version = line (codes ": image refused: Version") []
+image_line FileType = line (codes ": image refused: FileType") []
+image_line Machine = line (codes ": image refused: Machine") []
+image_line Flags = line (codes ": image refused: Flags") []
+image_line HeaderSize = line (codes ": image refused: HeaderSize") []
+image_line SegmentCount = line (codes ": image refused: SegmentCount") []
+image_line TableOutOfFile = line (codes ": image refused: TableOutOfFile") []
+image_line (Dynamic i) = line (codes ": image refused: Dynamic") (i ∷ [])
+image_line (SegmentOutOfFile i) = line (codes ": image refused: SegmentOutOfFile") (i ∷ [])
+image_line (SizeAboveMemory i) = line (codes ": image refused: SizeAboveMemory") (i ∷ [])
+image_line (OutsideWindow i) = line (codes ": image refused: OutsideWindow") (i ∷ [])
+image_line Entry = line (codes ": image refused: Entry") []
 
--- the line of a refused journal: the refusal's name, and the number of its line where it has one
+-- the same of a refused journal: the refusal's name, and the number of its line where it has one
 unfoldable pub journal_line : JournalRefusal → List ℕ
-journal_line JournalTooLong = line (codes "fsu_replay: journal refused: TooLong") []
-journal_line Header = line (codes "fsu_replay: journal refused: Header") []
-journal_line (Line number) = line (codes "fsu_replay: journal refused: Line") (number ∷ [])
+journal_line JournalTooLong = line (codes ": journal refused: TooLong") []
+journal_line Header = line (codes ": journal refused: Header") []
+journal_line (Line number) = line (codes ": journal refused: Line") (number ∷ [])
 
--- the line of a failure
-unfoldable pub line_of : Failure → List ℕ
-line_of Words = line (codes "fsu_replay: words") []
-line_of ImageFile = line (codes "fsu_replay: cannot read image") []
-line_of JournalFile = line (codes "fsu_replay: cannot read journal") []
-line_of (Image refusal) = image_line refusal
-line_of (Journal refusal) = journal_line refusal
-line_of Output = line (codes "fsu_replay: cannot write") []
-line_of Memory = line (codes "fsu_replay: no memory") []
+-- the line of a failure, without the name of the program
+unfoldable pub cause_line : Failure → List ℕ
+cause_line Words = line (codes ": words") []
+cause_line ImageFile = line (codes ": cannot read image") []
+cause_line JournalFile = line (codes ": cannot read journal") []
+cause_line (Image refusal) = image_line refusal
+cause_line (Journal refusal) = journal_line refusal
+cause_line Output = line (codes ": cannot write") []
+cause_line Memory = line (codes ": no memory") []
+
+-- the line of a failure, which begins with the name of the program
+unfoldable pub line_of : List ℕ → Failure → List ℕ
+line_of program failure = program ++ cause_line failure

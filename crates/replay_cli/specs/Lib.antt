@@ -3,3 +3,5 @@ pub mod Journal
 pub mod Failures
 pub mod Headline
 pub mod Causes
+pub mod Addresses
+pub mod Places

@@ -1,6 +1,6 @@
 //! What the tests replay: cases with whatever fails in them.
 
-use crate::{Status, replay};
+use crate::{Status, replay, tell_places};
 use replay_io::{MemFiles, MemSink, Words};
 use std::alloc::Global;
 use std::process::Abort;
@@ -43,8 +43,17 @@ pub fn given<'a>(
     }
 }
 
-/// Replays a case over memory, and compares status, output and the line that tells why.
-pub fn check(rt: &impl Abort, alloc: Global, case: &Case<'_>) -> Result<(), Fail> {
+/// What a call is given and what it writes, in memory.
+#[derive(Drop)]
+struct World {
+    words: Words,
+    files: MemFiles,
+    out: MemSink,
+    err: MemSink,
+}
+
+/// The words, the files and the empty sinks of a case.
+fn make_world(alloc: Global, case: &Case<'_>) -> Result<World, Fail> {
     let mut words = Words::new(alloc);
     for word in case.words {
         words.push(word)?;
@@ -52,11 +61,45 @@ pub fn check(rt: &impl Abort, alloc: Global, case: &Case<'_>) -> Result<(), Fail
     let mut files = MemFiles::new(alloc, case.failing_loads)?;
     files.add("image", case.image)?;
     files.add("journal", case.journal)?;
-    let mut out = MemSink::new(alloc, 8192, case.failing_puts)?;
-    let mut err = MemSink::new(alloc, 4096, &[])?;
-    let status = replay(alloc, &words, &mut files, &mut out, &mut err);
+    Ok(World {
+        words,
+        files,
+        out: MemSink::new(alloc, 8192, case.failing_puts)?,
+        err: MemSink::new(alloc, 4096, &[])?,
+    })
+}
+
+/// Compares status, output and the line that tells why with what they must be.
+fn compare(rt: &impl Abort, case: &Case<'_>, world: &World, status: Status) {
     assert_eq!(rt; status, case.status);
-    assert_eq!(rt; str::from_utf8(out.bytes()), str::from_utf8(case.out));
-    assert_eq!(rt; err.bytes(), case.err);
+    assert_eq!(rt; str::from_utf8(world.out.bytes()), str::from_utf8(case.out));
+    assert_eq!(rt; world.err.bytes(), case.err);
+}
+
+/// Replays a case over memory, and compares what comes of it.
+pub fn check(rt: &impl Abort, alloc: Global, case: &Case<'_>) -> Result<(), Fail> {
+    let mut world = make_world(alloc, case)?;
+    let World {
+        words,
+        files,
+        out,
+        err,
+    } = &mut world;
+    let status = replay(alloc, words, files, out, err);
+    compare(rt, case, &world, status);
+    Ok(())
+}
+
+/// Tells the places of a case over memory, and compares what comes of it.
+pub fn check_places(rt: &impl Abort, alloc: Global, case: &Case<'_>) -> Result<(), Fail> {
+    let mut world = make_world(alloc, case)?;
+    let World {
+        words,
+        files,
+        out,
+        err,
+    } = &mut world;
+    let status = tell_places(alloc, words, files, out, err);
+    compare(rt, case, &world, status);
     Ok(())
 }

@@ -1,6 +1,6 @@
 ghost use Rattle.std.specs.Prelude.{◌≡◌};
 ghost use Rattle.replay_io.specs.Writing.{Writes};
-ghost use Rattle.replay_cli.specs.Failures.{code_of, status_of, line_of, image_line, journal_line};
+ghost use Rattle.replay_cli.specs.Failures.{code_of, status_of, cause_line, line_of, image_line, journal_line};
 
 use crate::journal::JournalRefusal;
 use elf_image::ImageRefusal;
@@ -65,19 +65,28 @@ impl Failure {
         }
     }
 
-    /// Writes the line that tells it.
+    /// Writes the line that tells it, which begins with the name of the program.
     #[tactic(auto, unfolding(crate::specs::Failures::line_of))]
-    pub fn put_line<E: Sink>(self, err: &mut E) -> Result<(), SinkFailed>
-        ensures { Writes result (E.written err.old) (E.written err.new) (E.faults err.old) (E.faults err.new) (line_of self) }
+    pub fn put_line<E: Sink>(self, program: &str, err: &mut E) -> Result<(), SinkFailed>
+        ensures { Writes result (E.written err.old) (E.written err.new) (E.faults err.old) (E.faults err.new) (line_of program.now self) }
+    {
+        err.put(program.as_bytes())?;
+        self.put_cause(err)
+    }
+
+    /// Writes the rest of the line after the program's name.
+    #[tactic(auto, unfolding(crate::specs::Failures::cause_line))]
+    fn put_cause<E: Sink>(self, err: &mut E) -> Result<(), SinkFailed>
+        ensures { Writes result (E.written err.old) (E.written err.new) (E.faults err.old) (E.faults err.new) (cause_line self) }
     {
         match self {
-            Failure::Words => put_line(b"fsu_replay: words", &[], err),
-            Failure::ImageFile => put_line(b"fsu_replay: cannot read image", &[], err),
-            Failure::JournalFile => put_line(b"fsu_replay: cannot read journal", &[], err),
+            Failure::Words => put_line(b": words", &[], err),
+            Failure::ImageFile => put_line(b": cannot read image", &[], err),
+            Failure::JournalFile => put_line(b": cannot read journal", &[], err),
             Failure::Image(refusal) => put_image_line(refusal, err),
             Failure::Journal(refusal) => put_journal_line(refusal, err),
-            Failure::Output => put_line(b"fsu_replay: cannot write", &[], err),
-            Failure::Memory => put_line(b"fsu_replay: no memory", &[], err),
+            Failure::Output => put_line(b": cannot write", &[], err),
+            Failure::Memory => put_line(b": no memory", &[], err),
         }
     }
 }
@@ -88,47 +97,35 @@ fn put_image_line<E: Sink>(refusal: ImageRefusal, err: &mut E) -> Result<(), Sin
     ensures { Writes result (E.written err.old) (E.written err.new) (E.faults err.old) (E.faults err.new) (image_line refusal) }
 {
     match refusal {
-        ImageRefusal::TooLong => put_line(b"fsu_replay: image refused: TooLong", &[], err),
-        ImageRefusal::Short => put_line(b"fsu_replay: image refused: Short", &[], err),
-        ImageRefusal::Magic => put_line(b"fsu_replay: image refused: Magic", &[], err),
-        ImageRefusal::Class => put_line(b"fsu_replay: image refused: Class", &[], err),
-        ImageRefusal::Order => put_line(b"fsu_replay: image refused: Order", &[], err),
-        ImageRefusal::Version => put_line(b"fsu_replay: image refused: Version", &[], err),
-        ImageRefusal::FileType => put_line(b"fsu_replay: image refused: FileType", &[], err),
-        ImageRefusal::Machine => put_line(b"fsu_replay: image refused: Machine", &[], err),
-        ImageRefusal::Flags => put_line(b"fsu_replay: image refused: Flags", &[], err),
-        ImageRefusal::HeaderSize => put_line(b"fsu_replay: image refused: HeaderSize", &[], err),
-        ImageRefusal::SegmentCount => put_line(
-            b"fsu_replay: image refused: SegmentCount",
-            &[],
-            err,
-        ),
-        ImageRefusal::TableOutOfFile => put_line(
-            b"fsu_replay: image refused: TableOutOfFile",
-            &[],
-            err,
-        ),
-        ImageRefusal::Dynamic(i) => put_line(
-            b"fsu_replay: image refused: Dynamic",
-            &[u64::from(i)],
-            err,
-        ),
+        ImageRefusal::TooLong => put_line(b": image refused: TooLong", &[], err),
+        ImageRefusal::Short => put_line(b": image refused: Short", &[], err),
+        ImageRefusal::Magic => put_line(b": image refused: Magic", &[], err),
+        ImageRefusal::Class => put_line(b": image refused: Class", &[], err),
+        ImageRefusal::Order => put_line(b": image refused: Order", &[], err),
+        ImageRefusal::Version => put_line(b": image refused: Version", &[], err),
+        ImageRefusal::FileType => put_line(b": image refused: FileType", &[], err),
+        ImageRefusal::Machine => put_line(b": image refused: Machine", &[], err),
+        ImageRefusal::Flags => put_line(b": image refused: Flags", &[], err),
+        ImageRefusal::HeaderSize => put_line(b": image refused: HeaderSize", &[], err),
+        ImageRefusal::SegmentCount => put_line(b": image refused: SegmentCount", &[], err),
+        ImageRefusal::TableOutOfFile => put_line(b": image refused: TableOutOfFile", &[], err),
+        ImageRefusal::Dynamic(i) => put_line(b": image refused: Dynamic", &[u64::from(i)], err),
         ImageRefusal::SegmentOutOfFile(i) => put_line(
-            b"fsu_replay: image refused: SegmentOutOfFile",
+            b": image refused: SegmentOutOfFile",
             &[u64::from(i)],
             err,
         ),
         ImageRefusal::SizeAboveMemory(i) => put_line(
-            b"fsu_replay: image refused: SizeAboveMemory",
+            b": image refused: SizeAboveMemory",
             &[u64::from(i)],
             err,
         ),
         ImageRefusal::OutsideWindow(i) => put_line(
-            b"fsu_replay: image refused: OutsideWindow",
+            b": image refused: OutsideWindow",
             &[u64::from(i)],
             err,
         ),
-        ImageRefusal::Entry => put_line(b"fsu_replay: image refused: Entry", &[], err),
+        ImageRefusal::Entry => put_line(b": image refused: Entry", &[], err),
     }
 }
 
@@ -138,10 +135,10 @@ fn put_journal_line<E: Sink>(refusal: JournalRefusal, err: &mut E) -> Result<(),
     ensures { Writes result (E.written err.old) (E.written err.new) (E.faults err.old) (E.faults err.new) (journal_line refusal) }
 {
     match refusal {
-        JournalRefusal::TooLong => put_line(b"fsu_replay: journal refused: TooLong", &[], err),
-        JournalRefusal::Header => put_line(b"fsu_replay: journal refused: Header", &[], err),
+        JournalRefusal::TooLong => put_line(b": journal refused: TooLong", &[], err),
+        JournalRefusal::Header => put_line(b": journal refused: Header", &[], err),
         JournalRefusal::Line(number) => put_line(
-            b"fsu_replay: journal refused: Line",
+            b": journal refused: Line",
             &[u64::from(number)],
             err,
         ),

@@ -1,13 +1,17 @@
-//! The top call of a replay: words, files and sinks in, a trace and a status out.
+//! The top calls: words, files and sinks in, a trace or the places of the threads and a status out.
 #![tactic(auto)]
 
 mod accepted;
+mod address;
 mod failure;
 mod journal;
+mod lines;
+mod places;
 mod top;
 
 pub use failure::{Failure, Status};
 pub use journal::JournalRefusal;
+pub use places::tell_places;
 pub use top::replay;
 
 #[cfg(test)]

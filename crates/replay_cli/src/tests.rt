@@ -1,5 +1,5 @@
 use crate::Status;
-use crate::cases::{Case, EMPTY, check, given};
+use crate::cases::{Case, EMPTY, check, check_places, given};
 use std::alloc::Global;
 use std::test::Fail;
 
@@ -238,4 +238,33 @@ fn failing_loads_and_puts(rt: HostRuntime) -> Result<(), Fail> {
         }
     }
     Ok(())
+}
+
+#[test]
+fn places_are_told(rt: HostRuntime) -> Result<(), Fail> {
+    let alloc = rt.alloc();
+    let places = b"thread 1 ready pc 0x00010074 ra 0xffffffd0 sp 0x00410000\nend exit 3\n";
+    check_places(
+        &rt,
+        alloc,
+        &given(&SMALLEST, EMPTY, Status::Ran, places, b""),
+    )?;
+    // in place of the write's number it loads a word from a0 + 2, which is no multiple of 4
+    let faulting = changed(alloc, &[(100, 0x03), (101, 0x25), (102, 0x25), (103, 0x00)])?;
+    let fault =
+        b"thread 1 ready pc 0x00010064 ra 0xffffffd0 sp 0x00410000\nfault 1 7 address 0x00000003\nend killed 7\n";
+    check_places(
+        &rt,
+        alloc,
+        &given(&faulting, EMPTY, Status::Ran, fault, b""),
+    )?;
+    let short = b"fsu_where: image refused: Short\n";
+    check_places(&rt, alloc, &refused(&SMALLEST[..51], short))?;
+    let front = b"thread 1 ready pc 0x00010074 ra 0xffffffd0 sp 0x00410000\nend e";
+    let line = b"fsu_where: cannot write\n";
+    let failed = Case {
+        failing_puts: &[(2, 5)],
+        ..given(&SMALLEST, EMPTY, Status::WriteFault, front, line)
+    };
+    check_places(&rt, alloc, &failed)
 }

@@ -1,7 +1,8 @@
-ghost use Rattle.std.specs.Prelude.{◌≡◌, ◌≢◌, ◌<◌, ◌≤◌, ◌⊎◌, ◌↔◌, ◌+◌, true, false, [], length, slice_index_or, take, IfSome, IfOk, IfErr, OnOk, List, ℕ, Option, Some, None};
+ghost use Rattle.std.specs.Prelude.{◌≡◌, ◌≢◌, ◌<◌, ◌≤◌, ◌⊎◌, ◌↔◌, ◌+◌, true, false, [], codes, length, slice_index_or, take, IfSome, IfOk, IfErr, OnOk, List, ℕ, Option, Some, None};
 ghost use Rattle.elf_image.specs.Refusal.{first_refusal};
 ghost use Rattle.replay_io.specs.Writing.{Rose};
 ghost use Rattle.posix_model.specs.Start as machine;
+ghost use Rattle.process_engine.specs.Engine.{moment_of, position_of};
 ghost use Rattle.replay_cli.specs.Words.{are_accepted, image_name, journal_name};
 ghost use Rattle.replay_cli.specs.Journal.{first_bad};
 ghost use Rattle.replay_cli.specs.Failures.{status_of};
@@ -17,6 +18,7 @@ use process_engine::{Process, WriteFault};
 use replay_io::{Files, LoadRefusal, Sink, Words};
 use rv_exec::Memory;
 use std::alloc::Global;
+use thread_base::NoMemory;
 use trace_text::Mode;
 
 /// The bytes of the window.
@@ -88,7 +90,40 @@ fn accept_journal<F: Files>(alloc: Global, name: &str, files: &mut F) -> Result<
     }
 }
 
-/// Checks the words, loads and checks image and journal, and runs; the first thing that fails ends it.
+/// Checks the words, loads and checks image and journal, and makes the process at the image's start; the first
+/// thing that fails ends it.
+pub(crate) fn accept<F: Files>(
+    alloc: Global,
+    words: &Words,
+    files: &mut F,
+) -> Result<Process, Failure>
+    ensures words { OnOk result (are_accepted words.now ≡ true) }
+    ensures journal { OnOk result (IsJournal (F.content files.old (journal_name words.now))) }
+    ensures start { IfOk result (λ p. IfSome (F.content files.old (image_name words.now)) (λ image. IsStartOf (loaded image) (moment_of p))) }
+    ensures at_rest { IfOk result (λ p. (position_of p).telling ≡ None) }
+    ensures settings { IfOk result (λ p. p.settings ≡ default_settings) }
+    ensures cause { IfErr result (λ f. (a b : ℕ) → Cause words.now (F.content files.old) (F.faults files.old) (F.faults files.new) a b f) }
+    ensures early { IfErr result (λ f. f ≢ Failure.Output) }
+    ensures same { (n : List ℕ) → F.content files.new n ≡ F.content files.old n }
+{
+    if !are_accepted(words) {
+        return Err(Failure::Words);
+    }
+    let program = match accept_image(alloc, words.word(0), files) {
+        Ok(program) => program,
+        Err(failure) => return Err(failure),
+    };
+    match accept_journal(alloc, words.word(1), files) {
+        Ok(()) => {}
+        Err(failure) => return Err(failure),
+    }
+    match Process::new(alloc, program.mem, program.entry, SETTINGS) {
+        Ok(process) => Ok(process),
+        Err(NoMemory) => Err(Failure::Memory),
+    }
+}
+
+/// Accepts the image and the journal and runs; the first thing that fails ends it.
 fn attempt<F: Files, O: Sink>(
     alloc: Global,
     words: &Words,
@@ -104,19 +139,9 @@ fn attempt<F: Files, O: Sink>(
     ensures front { IfErr result (λ f. f ≡ Failure.Output → IfSome (F.content files.old (image_name words.now)) (λ image. WritesFrontOf (loaded image) (O.written out.old) (O.written out.new))) }
     ensures same { (n : List ℕ) → F.content files.new n ≡ F.content files.old n }
 {
-    if !are_accepted(words) {
-        return Err(Failure::Words);
-    }
-    let program = match accept_image(alloc, words.word(0), files) {
-        Ok(program) => program,
+    let process = match accept(alloc, words, files) {
+        Ok(process) => process,
         Err(failure) => return Err(failure),
-    };
-    match accept_journal(alloc, words.word(1), files) {
-        Ok(()) => {}
-        Err(failure) => return Err(failure),
-    }
-    let Ok(process) = Process::new(alloc, program.mem, program.entry, SETTINGS) else {
-        return Err(Failure::Memory);
     };
     match process.run(out, Mode::Trace) {
         Ok(_) => Ok(()),
@@ -142,7 +167,7 @@ pub fn replay<F: Files, O: Sink, E: Sink>(
     ensures quiet { result ≡ Status.Ran → err.new ≡ err.old }
 
     // Each other status has its cause, and its line on `err`.
-    ensures fails { (result ≡ Status.Ran) ⊎ Fails result (Cause words.now (F.content files.old) (F.faults files.old) (F.faults files.new) (O.faults out.old) (O.faults out.new)) (E.written err.old) (E.written err.new) (E.faults err.old) (E.faults err.new) }
+    ensures fails { (result ≡ Status.Ran) ⊎ Fails (codes "fsu_replay") result (Cause words.now (F.content files.old) (F.faults files.old) (F.faults files.new) (O.faults out.old) (O.faults out.new)) (E.written err.old) (E.written err.new) (E.faults err.old) (E.faults err.new) }
     ensures words { (result ≡ Status.Words) ↔ (are_accepted words.now ≡ false) }
     ensures read { result ≡ Status.ReadFault → Rose (F.faults files.old (image_name words.now)) (F.faults files.new (image_name words.now)) ⊎ (IsImage (F.content files.old (image_name words.now)) × Rose (F.faults files.old (journal_name words.now)) (F.faults files.new (journal_name words.now))) }
     ensures image { result ≡ Status.Image → IfSome (F.content files.old (image_name words.now)) (λ image. first_refusal (loaded image) memory_size ≢ None) }
@@ -159,7 +184,7 @@ pub fn replay<F: Files, O: Sink, E: Sink>(
     match attempt(alloc, words, files, out) {
         Ok(()) => Status::Ran,
         Err(failure) => {
-            let _ = failure.put_line(err);
+            let _ = failure.put_line("fsu_replay", err);
             failure.status()
         }
     }

@@ -8,4 +8,4 @@ pub returns-in-Line : goal.returns-in-Line
 unfolding journal_line
 returns-in-Line g c =
     told c.put_line-in-Line.result _ _ _ _ _ _ c.put_line-in-Line.ensures
-    (indexed (codes "fsu_replay: journal refused: Line") c.from.result c.in-Line.number _ c.from.ensures (sym (ap journal_line c.in-Line.is)))
+    (indexed (codes ": journal refused: Line") c.from.result c.in-Line.number _ c.from.ensures (sym (ap journal_line c.in-Line.is)))
