@@ -1,0 +1,4 @@
+mod ChangeLemmas
+mod LinkLemmas
+mod RingLemmas
+mod UnlinkLemmas
