@@ -1,0 +1,5 @@
+/* A program that exits at once. */
+int main(void)
+{
+    return 0;
+}
