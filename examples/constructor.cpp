@@ -1,5 +1,5 @@
 // Objects outside all functions: their constructors run before main, in the order of the file, and their destructors
-// behind it, in the opposite order. In the trace: the exit (93) with main's value, 42, comes behind what the
+// after it, in the opposite order. In the trace: the exit (93) with main's value, 42, comes after what the
 // destructors write.
 #include <pthread.h>
 #include <stdio.h>

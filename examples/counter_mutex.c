@@ -1,5 +1,5 @@
 /* The counter with a mutex: no update is lost. In the trace: while thread 2 has mutex 0 and yields, thread 3 asks
-   for it (276) and waits (`block`). The unlock (278) hands the mutex over: the line `done 3 0 0` behind it says
+   for it (276) and waits (`block`). The unlock (278) hands the mutex over: the line `done 3 0 0` after it says
    that thread 3's lock was answered. The end is `end exit 4`. */
 #include "fsu.h"
 

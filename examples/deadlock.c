@@ -4,7 +4,7 @@
      call 2 276 1 ..  thread 2 waits for mutex 1;
      call 3 276 0 ..  thread 3 waits for mutex 0.
    Who has a mutex: look for its last lock (276) with the answer `0 0`, or the last `done` of a thread that waited
-   for it, with no unlock (278) behind; the README tells more. Here thread 3 has mutex 1, and thread 2 has mutex 0: a circle of 2 and 3. */
+   for it, with no unlock (278) after; the README tells more. Here thread 3 has mutex 1, and thread 2 has mutex 0: a circle of 2 and 3. */
 #include "fsu.h"
 
 fsu_stack stacks[2];

@@ -1,7 +1,7 @@
 /* The calls of fsu_replay, one inline function each, for C and C++. docs/MACHINE.md tells what each does and when
    it refuses. A call with an error alone answers it, 0 for none; one that also has a value answers both.
    Each call sets a0 to a3, those that it does not use to 0, so that a trace shows no leftovers.
-   Behind 'to come' stand calls that the program does not make yet: each answers FSU_ENOSYS and does nothing. */
+   After 'to come' stand calls that the program does not make yet: each answers FSU_ENOSYS and does nothing. */
 #ifndef FSU_H
 #define FSU_H
 
@@ -149,7 +149,7 @@ FSU_INLINE fsu_error fsu_cond_destroy(uint32_t condition)
     return fsu_call(281, condition, 0, 0, 0).error;
 }
 
-/* Releases a mutex of the caller and waits for a signal; the mutex is the caller's again behind it. */
+/* Releases a mutex of the caller and waits for a signal; the mutex is the caller's again after it. */
 FSU_INLINE fsu_error fsu_cond_wait(uint32_t condition, uint32_t mutex)
 {
     return fsu_call(282, condition, mutex, 0, 0).error;
