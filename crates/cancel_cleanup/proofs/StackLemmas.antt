@@ -4,7 +4,7 @@ use Rattle.std.proofs.lemmas.Option.{slice_get-get_or}
 use Rattle.arrayvec.specs.ArrayVec.{ArrayVec}
 use Rattle.thread_base.specs.Maps.{put, numbered}
 use Rattle.thread_base.proofs.MapLemmas.{put_is, put_same, put_other, numbered_set, numbered_read, numbered_blank}
-use Rattle.cancel_cleanup.specs.declared.Cleanup.{Cleanup}
+use Rattle.thread_base.specs.declared.frame.Cleanup.{Cleanup}
 use Rattle.cancel_cleanup.specs.declared.Flags.{Flags}
 use Rattle.cancel_cleanup.specs.Cancellations.{Cancellations, cleanups_of, no_cleanups, last_of}
 

@@ -2,7 +2,7 @@
 use Rattle.std.specs.Prelude.{ℕ, ◌-◌, Bool, true, false, List, [], Option, length, slice_get, take}
 use Rattle.arrayvec.specs.ArrayVec.{ArrayVec}
 use Rattle.thread_base.specs.Maps.{numbered}
-use Rattle.cancel_cleanup.specs.declared.Cleanup.{Cleanup}
+use Rattle.thread_base.specs.declared.frame.Cleanup.{Cleanup}
 use Rattle.cancel_cleanup.specs.declared.Flags.{Flags}
 
 -- flags and cleanup records for each thread, in the order of their numbers

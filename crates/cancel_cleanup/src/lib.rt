@@ -11,15 +11,8 @@ ghost use Rattle.cancel_cleanup.specs.Cancellations.{flags_of, cleanups_of, flag
 use arrayvec::ArrayVec;
 use std::alloc::Global;
 use std::marker::Model;
+pub use thread_base::Cleanup;
 use thread_base::{NoMemory, Tid};
-
-/// A cleanup record: the address of a routine, and the argument that it is to be called with
-/// (POSIX.1 `pthread_cleanup_push`).
-#[derive(Clone, Copy, Debug, Default, PartialEq, Eq)]
-pub struct Cleanup {
-    pub routine: u32,
-    pub arg: u32,
-}
 
 /// Whether a thread can be cancelled, whether at any time and not only at a cancellation point, and whether it is
 /// to be (POSIX.1 cancelability state, cancelability type, cancellation request).

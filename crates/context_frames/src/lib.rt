@@ -8,15 +8,8 @@ mod tests;
 
 pub use frames::Frames;
 use rv_exec::Regs;
+pub use thread_base::FrameKind;
 use thread_base::SigSet;
-
-/// What a frame was pushed for: a signal's handler, or a cleanup routine that is taken off the list and run
-/// (POSIX.1 pthread_cleanup_pop). What a thread's exit runs has no frame.
-#[derive(Clone, Copy, Debug, PartialEq, Eq)]
-pub enum FrameKind {
-    Handler,
-    Cleanup,
-}
 
 /// What a thread goes back to where a handler or a cleanup routine returns: its registers and its mask of signals.
 #[derive(Clone, Copy, Debug)]

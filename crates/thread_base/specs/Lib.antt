@@ -5,3 +5,4 @@ pub mod Priority
 pub mod Holders
 pub mod Objects
 pub mod Actions
+pub mod Deliveries

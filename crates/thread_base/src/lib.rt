@@ -6,9 +6,11 @@ ghost use Rattle.thread_base.specs.Numbers.{IsTid, IsPrio, IsInScope, IsCall, Is
 ghost use Rattle.thread_base.specs.Priority.{EffectiveIsGreatest};
 
 mod action;
+mod frame;
 mod mutex;
 
 pub use action::Action;
+pub use frame::{Cleanup, FrameKind};
 pub use mutex::{Holder, Kind, Protocol};
 use std::marker::Model;
 

@@ -5,7 +5,7 @@ use Rattle.std.specs.Option.{option_map}
 use Rattle.std.proofs.lemmas.List.Elements.{filter-append}
 use Rattle.thread_base.specs.Priority.{tids, first_greatest}
 use Rattle.thread_base.proofs.PriorityLemmas.{better, first_push}
-use Rattle.thread_signals.specs.Deliveries.{first_answer, own_signal, pending_recipient, is_greater, signals}
+use Rattle.thread_base.specs.Deliveries.{first_answer, own_signal, pending_recipient, is_greater, signals}
 
 -- the first answer from a number on, below another
 unfoldable pub answer_from : {A : Type 0} → (ℕ → Option A) → ℕ → ℕ → Option A

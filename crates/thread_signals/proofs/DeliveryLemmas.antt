@@ -11,7 +11,7 @@ use Rattle.thread_base.specs.Orders.{is_in}
 use Rattle.thread_base.specs.Priority.{tids, first_greatest}
 use Rattle.thread_base.proofs.PriorityLemmas.{first_some, first_in}
 use Rattle.thread_base.proofs.SearchLemmas.{find_passes, find_none, in_tids, tids_in, in_range}
-use Rattle.thread_signals.specs.Deliveries.{signals, takes, waits_for, waiters, recipient, own_signal, first_answer, own_delivery, pending_recipient, process_delivery, next_delivery, IsDue, IsSettled}
+use Rattle.thread_base.specs.Deliveries.{signals, takes, waits_for, waiters, recipient, own_signal, first_answer, own_delivery, pending_recipient, process_delivery, next_delivery, IsDue, IsSettled}
 use Rattle.thread_signals.proofs.WordLemmas.{scope_range}
 
 nothing : {A : Type 0} (o : Option A) → IsNone o → o ≡ None

@@ -9,7 +9,7 @@ use Rattle.thread_base.specs.Maps.{put, numbered}
 use Rattle.thread_base.specs.Numbers.{IsInScope, has_signal}
 use Rattle.thread_base.proofs.MapLemmas.{put_same, put_other, numbered_blank}
 use Rattle.thread_signals.specs.Counts.{is_pending, put_count, total, places}
-use Rattle.thread_signals.specs.Deliveries.{signals}
+use Rattle.thread_base.specs.Deliveries.{signals}
 use Rattle.thread_signals.specs.SignalState.{Table, AreSound, state_of, first_state, with_count, counts_of}
 use Rattle.thread_signals.proofs.TableLemmas.{zeros, blank, counts_blank, actions_blank, counts_set}
 use Rattle.thread_signals.proofs.WordLemmas.{has_or, has_and, has_none, scope_range}

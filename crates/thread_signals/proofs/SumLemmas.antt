@@ -6,7 +6,7 @@ use Rattle.std.proofs.lemmas.Bool.{cases_eq, cases_lt, lt-ltb, le-ltb}
 use Rattle.std.proofs.lemmas.List.Sums.{sum_by-cons, sum_by_push}
 use Rattle.thread_base.specs.Maps.{put}
 use Rattle.thread_base.proofs.MapLemmas.{put_is, put_same, put_other, put_got}
-use Rattle.thread_signals.specs.Deliveries.{signals}
+use Rattle.thread_base.specs.Deliveries.{signals}
 use Rattle.thread_signals.proofs.AnswerLemmas.{range_push}
 use Rattle.thread_signals.specs.Counts.{places, put_count, without_signal, all_of, total}
 

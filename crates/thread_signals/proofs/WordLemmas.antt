@@ -11,7 +11,7 @@ use Rattle.thread_base.specs.Maps.{put}
 use Rattle.thread_base.specs.Numbers.{IsInScope, has_signal}
 use Rattle.thread_base.proofs.MapLemmas.{put_is}
 use Rattle.thread_base.proofs.SearchLemmas.{find_first, find_nowhere}
-use Rattle.thread_signals.specs.Deliveries.{signals}
+use Rattle.thread_base.specs.Deliveries.{signals}
 
 -- a set with a signal more
 pub with_more : (set s : ℕ) → s < 32 → has_signal (bit_or set (1 * 2 ^ s % 2 ^ 32)) ≡ put (has_signal set) s true

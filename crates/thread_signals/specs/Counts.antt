@@ -2,7 +2,7 @@
 use Rattle.std.specs.Prelude.{ℕ, ◌||◌, Bool, nat_lt, List, sum_by, Option, Some, None}
 use Rattle.std.specs.List.{range_with_len}
 use Rattle.thread_base.specs.Maps.{put}
-use Rattle.thread_signals.specs.Deliveries.{signals}
+use Rattle.thread_base.specs.Deliveries.{signals}
 
 -- the place where the signals of a thread, or of the process, pend (this project's own numbers)
 abbrev pub place_of : Option ℕ → ℕ

@@ -1,3 +1,2 @@
-pub mod Deliveries
 pub mod Counts
 pub mod SignalState

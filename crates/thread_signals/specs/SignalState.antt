@@ -5,7 +5,7 @@ use Rattle.thread_base.specs.declared.action.Action.TheVariants.{Default}
 use Rattle.thread_base.specs.Actions.{ignores}
 use Rattle.thread_base.specs.Maps.{put, numbered}
 use Rattle.thread_base.specs.Numbers.{IsInScope, has_signal}
-use Rattle.thread_signals.specs.Deliveries.{is_free, recipient, next_delivery}
+use Rattle.thread_base.specs.Deliveries.{is_free, recipient, next_delivery}
 use Rattle.thread_signals.specs.Counts.{put_count, without_signal, all_of, total}
 
 -- what is kept by thread, by place and signal, and by signal (this project's own)

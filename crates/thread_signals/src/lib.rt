@@ -7,7 +7,7 @@ ghost use Rattle.thread_base.specs.Maps.{put, numbered};
 ghost use Rattle.thread_base.specs.Numbers.{IsTid, has_signal, can_block};
 ghost use Rattle.thread_base.specs.Priority.{tids, first_greatest};
 ghost use Rattle.thread_signals.specs.Counts.{place_of, is_pending, put_count, without_signal, all_of, total};
-ghost use Rattle.thread_signals.specs.Deliveries.{waits_for, takes, waiters, own_signal, own_delivery, pending_recipient, process_delivery, is_greater, IsDue, IsSettled};
+ghost use Rattle.thread_base.specs.Deliveries.{waits_for, takes, waiters, own_signal, own_delivery, pending_recipient, process_delivery, is_greater, IsDue, IsSettled};
 ghost use Rattle.thread_signals.specs.SignalState.{state_of, first_state, with_count, with_action, dropped_by, free_in, recipient_in, next_in};
 
 #[cfg(test)]

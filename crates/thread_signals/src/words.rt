@@ -3,7 +3,7 @@
 ghost use Rattle.std.specs.Prelude.{◌≡◌, ◌<◌, ℕ, true, find};
 ghost use Rattle.thread_base.specs.Maps.{put};
 ghost use Rattle.thread_base.specs.Numbers.{IsInScope, has_signal};
-ghost use Rattle.thread_signals.specs.Deliveries.{signals};
+ghost use Rattle.thread_base.specs.Deliveries.{signals};
 
 use thread_base::Sig;
 

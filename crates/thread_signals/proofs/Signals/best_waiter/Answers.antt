@@ -1,7 +1,7 @@
 use Rattle.std.proofs.Common.{◌≡◌, ◌∙◌, ◌+◌, ap, sym, arith, ℕ, Bool, Some, true, false}
 use Rattle.thread_base.specs.Maps.{numbered}
 use Rattle.thread_base.specs.Priority.{first_greatest}
-use Rattle.thread_signals.specs.Deliveries.{waits_for, is_greater}
+use Rattle.thread_base.specs.Deliveries.{waits_for, is_greater}
 use Rattle.thread_signals.specs.SignalState.{state_of}
 use Rattle.thread_signals.proofs.AnswerLemmas.{passing_to, passing_none, passing_all, best_skip, best_taken, best_left}
 use Rattle.thread_signals.proofs.Signals.best_waiter.Goals as goal

@@ -2,7 +2,7 @@ use Rattle.std.proofs.Common.{◌≡◌, ℕ, Bool, Option, subst, sym, rules, t
 use Rattle.std.specs.Prelude.{nat_lt}
 use Rattle.thread_base.specs.Maps.{numbered}
 use Rattle.thread_base.specs.Numbers.{IsInScope}
-use Rattle.thread_signals.specs.Deliveries.{IsDue}
+use Rattle.thread_base.specs.Deliveries.{IsDue}
 use Rattle.thread_signals.specs.SignalState.{Table, state_of, free_in, next_in, counts_of}
 use Rattle.thread_signals.proofs.DeliveryLemmas.{next_due, next_none}
 use Rattle.thread_signals.proofs.Signals.next_delivery.Goals as goal

@@ -1,6 +1,6 @@
 use Rattle.std.proofs.Common.{◌≡◌, ◌+◌}
 use Rattle.thread_signals.specs.SignalState.{state_of, free_in}
-use Rattle.thread_signals.specs.Deliveries.{own_delivery}
+use Rattle.thread_base.specs.Deliveries.{own_delivery}
 use Rattle.thread_signals.proofs.AnswerLemmas.{answer_from, own_answer}
 use Rattle.thread_signals.proofs.Signals.own_delivery.Given as goal
 

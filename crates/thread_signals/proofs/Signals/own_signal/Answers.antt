@@ -1,6 +1,6 @@
 use Rattle.std.proofs.Common.{◌∙◌, ◌&&◌, ap, find}
 use Rattle.std.specs.Prelude.{nat_lt}
-use Rattle.thread_signals.specs.Deliveries.{signals, takes}
+use Rattle.thread_base.specs.Deliveries.{signals, takes}
 use Rattle.thread_signals.specs.SignalState.{Table, state_of, counts_of, free_in}
 use Rattle.thread_signals.proofs.SoundLemmas.{own_scope, own_found}
 use Rattle.thread_signals.proofs.Signals.own_signal.Goals as goal

@@ -3,7 +3,7 @@ use Rattle.std.specs.Prelude.{nat_lt}
 use Rattle.std.specs.Option.{option_map}
 use Rattle.std.proofs.lemmas.Bool.{cases_Bool}
 use Rattle.thread_base.specs.Maps.{numbered}
-use Rattle.thread_signals.specs.Deliveries.{recipient}
+use Rattle.thread_base.specs.Deliveries.{recipient}
 use Rattle.thread_signals.specs.SignalState.{Table, state_of, free_in, counts_of}
 use Rattle.thread_signals.proofs.AnswerLemmas.{process_answer, of_signals, answer_here, answer_later, answer_no_more}
 use Rattle.thread_signals.proofs.Signals.process_delivery.Goals as goal

@@ -1,7 +1,7 @@
 use Rattle.std.proofs.Common.{◌≡◌}
 use Rattle.thread_base.specs.Maps.{numbered}
 use Rattle.thread_signals.specs.SignalState.{state_of, free_in}
-use Rattle.thread_signals.specs.Deliveries.{process_delivery}
+use Rattle.thread_base.specs.Deliveries.{process_delivery}
 use Rattle.thread_signals.proofs.AnswerLemmas.{answer_from, process_answer}
 use Rattle.thread_signals.proofs.Signals.process_delivery.Given as goal
 

@@ -1,6 +1,6 @@
 use Rattle.std.proofs.Common.{◌≡◌, ℕ, Option, subst, sym, rules, true, IfSome, IsNone}
 use Rattle.thread_base.specs.Maps.{numbered}
-use Rattle.thread_signals.specs.Deliveries.{takes}
+use Rattle.thread_base.specs.Deliveries.{takes}
 use Rattle.thread_signals.specs.SignalState.{state_of, free_in, recipient_in}
 use Rattle.thread_signals.proofs.DeliveryLemmas.{recipient_takes, recipient_none}
 use Rattle.thread_signals.proofs.Signals.recipient.Goals as goal
