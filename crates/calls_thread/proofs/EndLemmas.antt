@@ -4,7 +4,7 @@ use Rattle.thread_base.specs.Priority.{tids}
 use Rattle.thread_base.proofs.MapLemmas.{put_other}
 use Rattle.thread_base.proofs.OrderLemmas.{is_in-push}
 use Rattle.thread_base.proofs.SearchLemmas.{find_passes}
-use Rattle.posix_model.specs.State.{State, Thread, none_pending, is_ready, joins}
+use Rattle.posix_model.specs.State.{State, Thread, none_pending, no_keys, is_ready, joins}
 use Rattle.posix_model.specs.Changes.{Outcome, begun, answer, with_reply}
 use Rattle.posix_model.specs.Threads.{joiner}
 use Rattle.posix_model.specs.Leaving.{ended, end_of_thread, end_with, remains, over_with_last, without_thread, with_end}
@@ -29,8 +29,8 @@ module _ (s : State) (t value : ℕ) where
   pub ended_alone : joiner s t ≡ None → change_by (OfThread t (End value false)) (begun (with_orphans s t)) ≡ end_of_thread s t value
   ended_alone none = ended_orphans (begun s) t (remains (s.threads t) value None) (s.pending t) value ∙ ap (end_with s t value) (sym none)
 
-  pub can_end_alone : IsListed s t → s.pending ≡ none_pending → Can (OfThread t (End value false)) (begun (with_orphans s t))
-  can_end_alone listed calm = (listed, calm, none_remaining s t)
+  pub can_end_alone : IsListed s t → s.pending ≡ none_pending → s.keys ≡ no_keys → Can (OfThread t (End value false)) (begun (with_orphans s t))
+  can_end_alone listed calm keyless = (listed, calm, none_remaining s t, keyless)
 
 module _ (s : State) (t u value : ℕ) (good : IsGood s) (listed : IsListed s t) (found : joiner s t ≡ Some u) where
   joins_it : joins t (s.threads u).standing ≡ true
@@ -44,8 +44,8 @@ module _ (s : State) (t u value : ℕ) (good : IsGood s) (listed : IsListed s t)
   apart : t ≢ u
   apart = ended_apart s t u listed.2 (joins_waits t (s.threads u).standing joins_it).0
 
-  pub can_end : s.pending ≡ none_pending → Can (OfThread t (End value true)) (change_by (OfThread u (Answer 0 value)) (begun (with_orphans s t)))
-  can_end calm = (
+  pub can_end : s.pending ≡ none_pending → s.keys ≡ no_keys → Can (OfThread t (End value true)) (change_by (OfThread u (Answer 0 value)) (begun (with_orphans s t)))
+  can_end calm keyless = (
     (
       there_append s t u (with_reply (s.threads u) 0 value) listed.0,
       is_in-push u t s.ready apart ∙ listed.1,
@@ -53,6 +53,7 @@ module _ (s : State) (t u value : ℕ) (good : IsGood s) (listed : IsListed s t)
     ),
     calm,
     none_remaining s t,
+    keyless,
   )
 
   pub ended_joined : change_by (OfThread t (End value true)) (change_by (OfThread u (Answer 0 value)) (begun (with_orphans s t))) ≡ end_of_thread s t value

@@ -1,3 +1,4 @@
 pub mod StayLemmas
 pub mod OrphanLemmas
 pub mod EndLemmas
+pub mod FaultLemmas

@@ -1,6 +1,6 @@
 ghost use Rattle.std.specs.Prelude.{◌≡◌, ◌≤◌, length, slice_index};
 ghost use Rattle.posix_model.specs.Changes.{begun};
-ghost use Rattle.posix_model.specs.Deliveries.{faulted};
+ghost use Rattle.posix_model.specs.Deliveries.{struck, faulted};
 ghost use Rattle.posix_model.specs.Instructions.{returned};
 ghost use Rattle.posix_model.specs.Leaving.{end_of_thread, start_exit};
 ghost use Rattle.kernel_state.specs.View.{view};
@@ -11,25 +11,45 @@ use kernel_state::{Change, Kernel, MutexChange, SignalChange, ThreadChange};
 use posix_model::Head;
 use ready_queues::Ready;
 use rv_exec::Special;
-use thread_base::{Holder, Sig, Tid};
+use thread_base::{Action, Holder, Sig, Tid};
 
 /// The signal of a special return that is not due.
 const SIGSEGV: u32 = 11;
 
-/// Begins a fault of the chosen thread: its signal pends from now on.
+/// Notes what a fault's signal does to a thread that blocks none: it pends, or ends the process at once where it is
+/// ignored by default.
+fn note_fault<R: Ready + Drop>(k: &mut Kernel<R>, t: Tid, s: Sig)
+    requires { CanNote R.order k.old t }
+    ensures { HasNotedSome R.order k.old k.new (struck (view R.order k.old.tables) t s) }
+{
+    if Action::Default.ignores(s) {
+        k.note_one(
+            t,
+            Change::Kill {
+                signal: s,
+                count: 1,
+            },
+        );
+    } else {
+        let change = SignalChange::Pend;
+        k.note_one(
+            t,
+            Change::Signal {
+                thread: t,
+                signal: s,
+                change,
+            },
+        );
+    }
+}
+
+/// Begins a fault of the chosen thread: its signal pends from now on, or ends the process at once where it is ignored.
 pub fn begin_fault<R: Ready + Drop>(k: &mut Kernel<R>, t: Tid, s: Sig)
     requires { CanBegin R.order k.old t }
     ensures { IsBegun R.order k.old k.new (faulted (view R.order k.old.tables) t s) }
 {
     let _sound = k.tables();
-    k.note_one(
-        t,
-        Change::Signal {
-            thread: t,
-            signal: s,
-            change: SignalChange::Pend,
-        },
-    );
+    note_fault(k, t, s);
     k.begin_move(t, Head::Fault(s));
 }
 
@@ -97,7 +117,7 @@ fn note_exit<R: Ready + Drop>(k: &mut Kernel<R>, t: Tid)
 /// Begins a special return of the chosen thread, or the fault with SIGSEGV where it is not due.
 pub fn begin_return<R: Ready + Drop>(k: &mut Kernel<R>, t: Tid, which: Special)
     requires { CanBegin R.order k.old t }
-    ensures { IsBegun R.order k.old k.new (returned (view R.order k.old.tables) t which ((view R.order k.old.tables).threads t).phase) }
+    ensures { IsBegun R.order k.old k.new (returned (view R.order k.old.tables) t which) }
 {
     let leaving = k.tables().known(t).activity.leaving;
     match which {

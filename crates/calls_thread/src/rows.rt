@@ -49,7 +49,7 @@ fn cannot_start(c: Arguments) -> bool
 
 /// What a new thread begins with that a thread makes.
 fn first_of(creator: Row, c: Arguments) -> Beginning
-    ensures { (thread : Thread) → thread.base ≡ creator.base → thread.policy ≡ creator.policy → begun_thread result ≡ new_thread thread c }
+    ensures { (thread : Thread) → thread.base ≡ creator.base → thread.policy ≡ creator.policy → thread.mask ≡ 0 → begun_thread result ≡ new_thread thread c }
 {
     let attributes = Attributes { word: c.a3 };
     Beginning {

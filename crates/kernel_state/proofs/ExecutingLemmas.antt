@@ -16,7 +16,7 @@ use Rattle.rv_exec.specs.declared.Regs.{Regs}
 use Rattle.posix_model.specs.State.{State, Registers, is_absent}
 use Rattle.posix_model.specs.Changes.{set_registers}
 use Rattle.posix_model.specs.Threads.{exists}
-use Rattle.kernel_state.specs.View.{view, AreCurrent, context_of, contexts_of, registers_of, activities_of, pending_of, thread_of, threads_of}
+use Rattle.kernel_state.specs.View.{unkept, view, AreCurrent, context_of, contexts_of, registers_of, activities_of, pending_of, thread_of, threads_of}
 use Rattle.kernel_state.specs.Executing.{effect_at, HasExecuted}
 use Rattle.kernel_state.specs.declared.activity.Activity.{Activity}
 use Rattle.kernel_state.specs.declared.tables.Tables.{Tables}
@@ -82,11 +82,11 @@ module _ {R : Type 0} (order : R → List ℕ) (k : Tables R) (regs : Regs) (mem
       let contexts = sym (put-put (λ u. context_of (saved_of k.frames u)) k.placed (registers_of k.regs) (registers_of regs)) in
       let threads = ap (threads_of (rows k.threads) (activities_of k.activities)) contexts
       ∙ row_registers (rows k.threads k.placed) (rows k.threads) (activities_of k.activities) (contexts_of k) k.placed (registers_of regs) refl there in
-      λ i. record { threads = threads i; ready = order k.ready; mutexes = mutex_map k.mutexes; conditions = condition_map k.conditions; pending = pending_of k.fault; memory = memory; over = k.over }
+      λ i. record unkept { threads = threads i; ready = order k.ready; mutexes = mutex_map k.mutexes; conditions = condition_map k.conditions; pending = pending_of k.fault; memory = memory; over = k.over }
 
   still : registers_of regs ≡ registers_of k.regs → memory ≡ k.memory → after ≡ view order k
   unfolding view after
-  still e f = λ i. record {
+  still e f = λ i. record unkept {
     threads = threads_of (rows k.threads) (activities_of k.activities) (put (λ u. context_of (saved_of k.frames u)) k.placed (e i));
     ready = order k.ready;
     mutexes = mutex_map k.mutexes;

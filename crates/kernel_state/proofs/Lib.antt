@@ -9,3 +9,4 @@ pub mod KernelLemmas
 pub mod ExecutingLemmas
 pub mod PendingLemmas
 pub mod WakingLemmas
+pub mod SteadyLemmas

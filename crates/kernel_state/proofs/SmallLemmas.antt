@@ -9,7 +9,7 @@ use Rattle.thread_base.specs.Objects.{Mutex, Condition, with_waiters, with_holde
 use Rattle.thread_base.specs.Orders.{without, is_in}
 use Rattle.thread_base.proofs.MapLemmas.{put_same, put_other, kept}
 use Rattle.thread_base.proofs.OrderLemmas.{not_in-without, without_absent}
-use Rattle.posix_model.specs.State.{State, Thread, none_pending}
+use Rattle.posix_model.specs.State.{State, Thread, none_pending, no_keys}
 use Rattle.posix_model.specs.Changes.{Outcome, resumed}
 use Rattle.posix_model.specs.Leaving.{without_thread, over_with_last}
 use Rattle.posix_model.specs.Mutexes.{retake, retake_of, give, requeue}
@@ -17,10 +17,10 @@ use Rattle.posix_model.specs.Threads.{some_live}
 use Rattle.posix_model.specs.declared.Ending.TheVariants.{Exit}
 use Rattle.posix_model.specs.declared.RetakeReply.{RetakeReply}
 use Rattle.kernel_state.specs.Changing.{Can, CanMutex, CanCondition, CanThread, HasNoMutex, change_by, thread_change_by, mutex_change_by, condition_change_by, remains_of}
-use Rattle.kernel_state.specs.Small.{Object, TheMutex, TheCondition, TheSignal, TheEnding, bare, IsSame, ThreadList, ReadyList, MutexWaiters, CondWaiters, threads_of_list, IsSmall}
+use Rattle.kernel_state.specs.Small.{Object, TheMutex, TheCondition, TheSignal, TheEnding, bare, IsSame, ThreadList, ReadyList, MutexWaiters, CondWaiters, threads_of_list, IsUnmoved, IsSmall}
 use Rattle.kernel_state.specs.View.{with_ready}
 use Rattle.kernel_state.specs.declared.change.Change.{Change}
-use Rattle.kernel_state.specs.declared.change.Change.TheVariants.{Thread as OfThread, Mutex as OfMutex, Condition as OfCondition, Signal as OfSignal, Retake, Output, Over}
+use Rattle.kernel_state.specs.declared.change.Change.TheVariants.{Thread as OfThread, Mutex as OfMutex, Condition as OfCondition, Signal as OfSignal, Retake, Output, Over, Kill}
 use Rattle.kernel_state.specs.declared.change.ConditionChange.{ConditionChange}
 use Rattle.kernel_state.specs.declared.change.ConditionChange.TheVariants.{Make as MakeCondition, Destroy as DestroyCondition, Enter, Leave}
 use Rattle.kernel_state.specs.declared.change.MutexChange.{MutexChange}
@@ -76,10 +76,13 @@ no_cond_waiters : (o : Option Condition) → IsNone o → cond_waiters o ≡ []
 no_cond_waiters None h = refl
 no_cond_waiters (Some condition) h = absurd (let e : true ≡ false = h in cc)
 
+still : (s : State) → IsUnmoved s s
+still s = (refl, refl, refl, refl, refl, refl, refl)
+
 -- beside the record of a thread, its place in the ready list and the ending nothing changes
 small_thread : (s r : State) (t : ℕ) → ((u : ℕ) → u ≢ t → r.threads u ≡ s.threads u) → without t r.ready ≡ without t s.ready → r.mutexes ≡ s.mutexes → r.conditions ≡ s.conditions
-    → r.pending ≡ s.pending → r.memory ≡ s.memory → IsSmall s r
-small_thread s r t threads ready mutexes conditions pending memory = record {
+    → r.pending ≡ s.pending → IsUnmoved s r → IsSmall s r
+small_thread s r t threads ready mutexes conditions pending others = record {
   thread = t;
   object = TheEnding;
   list = ReadyList;
@@ -88,7 +91,7 @@ small_thread s r t threads ready mutexes conditions pending memory = record {
   objects = objects;
   lists = lists;
   place = ready;
-  memory = memory;
+  others = others;
 }
   where
     objects : (o : Object) → o ≢ TheEnding → IsSame o s r
@@ -114,7 +117,7 @@ small_mutex s m t threads o others place = record {
   objects = objects;
   lists = lists;
   place = ap (λ x. without t (waiters_in x)) (put_same s.mutexes m o) ∙ place;
-  memory = refl;
+  others = still s;
 }
   where
     r : State
@@ -143,7 +146,7 @@ small_condition s c t o place = record {
   objects = objects;
   lists = lists;
   place = ap (λ x. without t (cond_waiters x)) (put_same s.conditions c o) ∙ place;
-  memory = refl;
+  others = still s;
 }
   where
     r : State
@@ -171,7 +174,7 @@ small_signal s t sig n = record {
   objects = objects;
   lists = lists;
   place = refl;
-  memory = refl;
+  others = still s;
 }
   where
     r : State
@@ -201,7 +204,7 @@ small_given s m t mutex h thread here = record {
   objects = objects;
   lists = lists;
   place = without_pushed t s.ready;
-  memory = refl;
+  others = still s;
 }
   where
     given : Option Mutex
@@ -223,7 +226,7 @@ small_given s m t mutex h thread here = record {
 
 -- a mutex is taken back at once, or waited for
 small_retake : (g : Outcome) (m t count : ℕ) (reply : RetakeReply) (o : Option Mutex) → g.state.mutexes m ≡ o → IsSmall g.state (retake_of g m o t count reply).state
-small_retake g m t count reply None here = small_thread g.state g.state t (λ u ne. refl) refl refl refl refl refl
+small_retake g m t count reply None here = small_thread g.state g.state t (λ u ne. refl) refl refl refl refl (still g.state)
 small_retake g m t count reply (Some mutex) here =
     elim (is_free mutex.holder) as (λ b. IsSmall g.state (if b then give g m mutex t count reply else requeue g m mutex t count reply).state) [
       | true ↦ small_given g.state m t mutex _ _ here
@@ -231,27 +234,27 @@ small_retake g m t count reply (Some mutex) here =
     ]
 
 -- a thread is gone that had no mutex and on which nothing pended
-small_end : (g : Outcome) (t : ℕ) (left : Thread) → g.state.pending ≡ none_pending → HasNoMutex g.state t → IsSmall g.state (over_with_last (without_thread g.state t left))
-small_end g t left calm none =
+small_end : (g : Outcome) (t : ℕ) (left : Thread) → g.state.pending ≡ none_pending → HasNoMutex g.state t → g.state.keys ≡ no_keys → IsSmall g.state (over_with_last (without_thread g.state t left))
+small_end g t left calm none keyless =
     let s = g.state in
-    let gone = gone_calmly s t left calm none in
+    let gone = gone_calmly s t left calm none keyless in
     subst (λ x. IsSmall s (over_with_last x)) gone
     (elim (some_live (record s { threads = put s.threads t left; ready = without t s.ready }))
     as (λ b. IsSmall s (if b then record s { threads = put s.threads t left; ready = without t s.ready } else record s { threads = put s.threads t left; ready = without t s.ready; over = Some (Exit 0) })) [
-      | true ↦ small_thread s _ t (λ u ne. put_other s.threads t left u ne) (without_twice t s.ready) refl refl refl refl
-      | false ↦ small_thread s _ t (λ u ne. put_other s.threads t left u ne) (without_twice t s.ready) refl refl refl refl
+      | true ↦ small_thread s _ t (λ u ne. put_other s.threads t left u ne) (without_twice t s.ready) refl refl refl (still s)
+      | false ↦ small_thread s _ t (λ u ne. put_other s.threads t left u ne) (without_twice t s.ready) refl refl refl (still s)
     ])
 
 small_of_thread : (change : ThreadChange) (t : ℕ) (g : Outcome) → CanThread change t g.state → IsSmall g.state (thread_change_by change t g).state
-small_of_thread (Reply error value) t g can = small_thread g.state _ t (λ u ne. put_other g.state.threads t _ u ne) refl refl refl refl refl
-small_of_thread ToEnd t g can = small_thread g.state _ t (λ u ne. put_other g.state.threads t _ u ne) (moved t g.state.ready) refl refl refl refl
-small_of_thread (Create beginning) t g can = small_thread g.state _ t (λ u ne. put_other g.state.threads t _ u ne) (without_pushed t g.state.ready) refl refl refl refl
-small_of_thread (StartExit value) t g can = small_thread g.state _ t (λ u ne. put_other g.state.threads t _ u ne) refl refl refl refl refl
-small_of_thread (Await wait) t g can = small_thread g.state _ t (λ u ne. put_other g.state.threads t _ u ne) (without_twice t g.state.ready) refl refl refl refl
-small_of_thread (Answer error value) t g can = small_thread g.state _ t (λ u ne. put_other g.state.threads t _ u ne) (without_pushed t g.state.ready) refl refl refl refl
-small_of_thread Detach t g can = small_thread g.state _ t (λ u ne. put_other g.state.threads t _ u ne) refl refl refl refl refl
-small_of_thread Free t g can = small_thread g.state _ t (λ u ne. put_other g.state.threads t _ u ne) refl refl refl refl refl
-small_of_thread (End value joined) t g can = small_end g t (remains_of (g.state.threads t) value joined) can.1 can.2
+small_of_thread (Reply error value) t g can = small_thread g.state _ t (λ u ne. put_other g.state.threads t _ u ne) refl refl refl refl (still g.state)
+small_of_thread ToEnd t g can = small_thread g.state _ t (λ u ne. put_other g.state.threads t _ u ne) (moved t g.state.ready) refl refl refl (still g.state)
+small_of_thread (Create beginning) t g can = small_thread g.state _ t (λ u ne. put_other g.state.threads t _ u ne) (without_pushed t g.state.ready) refl refl refl (still g.state)
+small_of_thread (StartExit value) t g can = small_thread g.state _ t (λ u ne. put_other g.state.threads t _ u ne) refl refl refl refl (still g.state)
+small_of_thread (Await wait) t g can = small_thread g.state _ t (λ u ne. put_other g.state.threads t _ u ne) (without_twice t g.state.ready) refl refl refl (still g.state)
+small_of_thread (Answer error value) t g can = small_thread g.state _ t (λ u ne. put_other g.state.threads t _ u ne) (without_pushed t g.state.ready) refl refl refl (still g.state)
+small_of_thread Detach t g can = small_thread g.state _ t (λ u ne. put_other g.state.threads t _ u ne) refl refl refl refl (still g.state)
+small_of_thread Free t g can = small_thread g.state _ t (λ u ne. put_other g.state.threads t _ u ne) refl refl refl refl (still g.state)
+small_of_thread (End value joined) t g can = small_end g t (remains_of (g.state.threads t) value joined) can.1 can.2 can.3
 
 -- a mutex changes, and a place among its waiters
 mutex_only : (s : State) (m t : ℕ) (o : Option Mutex) → without t (waiters_in o) ≡ without t (waiters_in (s.mutexes m)) → IsSmall s (record s { mutexes = put s.mutexes m o })
@@ -276,5 +279,6 @@ small_change (OfMutex m change) g can = small_of_mutex change m g.state can
 small_change (OfCondition c change) g can = small_of_condition change c g.state can
 small_change (OfSignal t sig change) g can = small_signal g.state t sig _
 small_change (Retake t m count reply) g can = small_retake g m t count reply (g.state.mutexes m) refl
-small_change (Output descriptor buffer size) g can = small_thread g.state g.state 0 (λ u ne. refl) refl refl refl refl refl
-small_change (Over ending) g can = small_thread g.state _ 0 (λ u ne. refl) refl refl refl refl refl
+small_change (Output descriptor buffer size) g can = small_thread g.state g.state 0 (λ u ne. refl) refl refl refl refl (still g.state)
+small_change (Over ending) g can = small_thread g.state _ 0 (λ u ne. refl) refl refl refl refl (still g.state)
+small_change (Kill signal count) g can = small_thread g.state _ 0 (λ u ne. refl) refl refl refl refl (still g.state)

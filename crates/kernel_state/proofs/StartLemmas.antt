@@ -10,7 +10,7 @@ use Rattle.thread_table.specs.Rows.{rows, free_number, put_found}
 use Rattle.thread_table.specs.declared.Row.{Row}
 use Rattle.posix_model.specs.State.{State, Thread, is_absent, is_ready, no_thread}
 use Rattle.posix_model.specs.Start.{start_state, start_registers, main_thread}
-use Rattle.kernel_state.specs.View.{view, AreCurrent, thread_of, threads_of, activities_of, contexts_of, pending_of, no_activity, main_row}
+use Rattle.kernel_state.specs.View.{unkept, view, AreCurrent, thread_of, threads_of, activities_of, contexts_of, pending_of, no_activity, main_row}
 use Rattle.kernel_state.specs.Changing.{IsListed}
 use Rattle.kernel_state.specs.declared.tables.Tables.{Tables}
 use Rattle.kernel_state.proofs.CurrentLemmas.{come_current}
@@ -40,7 +40,7 @@ module _ {R : Type 0} (order : R → List ℕ) where
       put_is (λ t. no_thread) (threads_of (rows k.threads) (activities_of k.activities) (contexts_of k)) 1 (main_thread (length memory) entry)
       (λ i. thread_of (at_one i) (b i 1) (c i))
       (λ u ne i. thread_of (at_other u ne i) (activities_of k.activities u) (contexts_of k u)) in
-      λ i. record { threads = threads i; ready = d i; mutexes = h i; conditions = n i; pending = pending_of (e i); memory = f i; over = g i }
+      λ i. record unkept { threads = threads i; ready = d i; mutexes = h i; conditions = n i; pending = pending_of (e i); memory = f i; over = g i }
 
 -- nobody is ready
 no_one : (p : ℕ → ℕ) (s : State) → s.ready ≡ [] → AreCurrent p s

@@ -9,7 +9,7 @@ use Rattle.std.specs.Option.{IsSome}
 use Rattle.thread_base.specs.Maps.{put}
 use Rattle.thread_base.proofs.MapLemmas.{put_is, put_same, put_other, put-put, put_comm, put_got}
 use Rattle.thread_table.specs.declared.Row.{Row}
-use Rattle.posix_model.specs.State.{State, Thread, Registers, is_absent, is_live, no_thread, none_pending}
+use Rattle.posix_model.specs.State.{State, Thread, Registers, Key, is_absent, is_live, no_thread, none_pending, no_keys, default_actions}
 use Rattle.thread_base.specs.Priority.{tids}
 use Rattle.thread_table.specs.Rows.{rows, free_number as free_row, put_found, is_live as live_row, live_count}
 use Rattle.context_frames.specs.declared.Saved.{Saved}
@@ -19,10 +19,10 @@ use Rattle.cond_table.specs.ConditionMap.{conditions as condition_map}
 use Rattle.mutex_table.specs.MutexMap.{mutexes as mutex_map}
 use Rattle.kernel_state.specs.Changing.{HasNoMutex}
 use Rattle.kernel_state.proofs.MutexLemmas.{none_orphaned}
-use Rattle.posix_model.specs.Leaving.{without_thread, plus_each}
+use Rattle.posix_model.specs.Leaving.{cleared_in, without_thread, plus_each}
 use Rattle.posix_model.specs.Lines.{sig_numbers}
 use Rattle.posix_model.specs.Threads.{exists, free_number, some_live}
-use Rattle.kernel_state.specs.View.{context_of, contexts_of, activities_of, pending_of, thread_by, thread_of, threads_of, standing_of, view, with_ready}
+use Rattle.kernel_state.specs.View.{unkept, cancellation_of, context_of, contexts_of, activities_of, pending_of, thread_by, thread_of, threads_of, standing_of, view, with_ready}
 use Rattle.kernel_state.specs.declared.tables.Tables.{Tables}
 use Rattle.kernel_state.specs.declared.activity.Activity.{Activity}
 use Rattle.posix_model.specs.declared.Wait.{Wait}
@@ -92,7 +92,7 @@ module _ {R : Type 0} (order : R → List ℕ) where
       let changed : threads_of (rows q.threads) (activities_of q.activities) (contexts_of q) ≡ threads_of (put (rows k.threads) t (Some row)) (put (activities_of k.activities) t activity) (put (contexts_of k) t regs) =
       λ i. threads_of (a i) (b i) (c i) in
       let threads = changed ∙ threads_put (rows k.threads) (activities_of k.activities) (contexts_of k) t row activity regs in
-      λ i. record { threads = threads i; ready = d i; mutexes = mutex_map (h i); conditions = condition_map (n i); pending = pending_of (e i); memory = f i; over = g i }
+      λ i. record unkept { threads = threads i; ready = d i; mutexes = mutex_map (h i); conditions = condition_map (n i); pending = pending_of (e i); memory = f i; over = g i }
 
   -- there is a row where there is a thread
   pub view_row : (k : Tables R) (t : ℕ) → exists (view order k) t ≡ true → IsSome (rows k.threads t)
@@ -123,7 +123,7 @@ module _ {R : Type 0} (order : R → List ℕ) where
       let changed : threads_of (rows q.threads) (activities_of q.activities) (contexts_of q) ≡ threads_of (put (rows k.threads) t None) (activities_of k.activities) (contexts_of k) =
       λ i. threads_of (a i) (activities_of (b i)) (c i) in
       let threads = changed ∙ threads_freed (rows k.threads) (activities_of k.activities) (contexts_of k) t in
-      λ i. record { threads = threads i; ready = d i; mutexes = mutex_map (h i); conditions = condition_map (n i); pending = pending_of (e i); memory = f i; over = g i }
+      λ i. record unkept { threads = threads i; ready = d i; mutexes = mutex_map (h i); conditions = condition_map (n i); pending = pending_of (e i); memory = f i; over = g i }
 
 live_by : (ended : Option ℕ) (wait : Option Wait) → is_live (standing_of ended wait) ≡ is_none ended
 live_by (Some value) wait = refl
@@ -161,12 +161,15 @@ module _ {R : Type 0} (order : R → List ℕ) where
       ∙ some_counted (λ t. live_row (rows k.threads t)) tids 0
       ∙ sym (λ i. list_any (λ t. row_live (rows k.threads t) (activities_of k.activities t) (contexts_of k t) i) tids)
 
--- a thread is gone, nothing pended on it, and it had no mutex
-pub gone_calmly : (s : State) (t : ℕ) (left : Thread) → s.pending ≡ none_pending → HasNoMutex s t → with_ready (set_thread s t left) (without t s.ready) ≡ without_thread s t left
-gone_calmly s t left calm bare =
+-- a thread is gone, nothing pended on it, and it had no mutex and no value of a key
+pub gone_calmly : (s : State) (t : ℕ) (left : Thread) → s.pending ≡ none_pending → HasNoMutex s t → s.keys ≡ no_keys
+    → with_ready (set_thread s t left) (without t s.ready) ≡ without_thread s t left
+gone_calmly s t left calm bare keyless =
     let same : put s.pending t (λ sig. 0) ≡ s.pending = ap (λ (m : ℕ → ℕ → ℕ). put m t (λ sig. 0)) calm ∙ put_got none_pending t ∙ sym calm in
     let none = none_orphaned s t bare in
-    λ i. record (set_thread s t left) { ready = without t s.ready; mutexes = none i; pending = sym same i }
+    let cleared : (ℕ → Option Key) → ℕ → Option Key = λ m k. cleared_in t (m k) in
+    let clear : cleared s.keys ≡ s.keys = ap cleared keyless ∙ sym keyless in
+    λ i. record (set_thread s t left) { ready = without t s.ready; mutexes = none i; keys = sym clear i; pending = sym same i }
 
 -- nothing more of each signal
 plus_none : (n a : ℕ) (counts : List ℕ) → a + n ≤ length counts → map (λ sig. get_or counts sig 0 + 0) (range_with_len a n) ≡ take n (drop a counts)
@@ -190,3 +193,31 @@ any_found p (x ∷ xs) = by (p x) (any_found p xs)
     by : (b : Bool) → is_some (find p xs) ≡ list_any p xs → is_some (cond b (Some x) (find p xs)) ≡ b || list_any p xs
     by true e = refl
     by false e = e
+
+-- what is not kept of a thread yet: it blocks no signal, has no frame and no cleanup routine, and nobody cancels it
+pub record IsPlain (thread : Thread) : Type 0 where
+  pub mask : thread.mask ≡ 0
+  pub frames : thread.frames ≡ []
+  pub cleanups : thread.cleanups ≡ []
+  pub kept : thread.cancellation.pending ≡ false
+
+kept_by : (leaving : Option ℕ) → (cancellation_of leaving).pending ≡ false
+kept_by None = refl
+kept_by (Some value) = refl
+
+plain_thread : (o : Option Row) (activity : Activity) (regs : Registers) → IsPlain (thread_of o activity regs)
+plain_thread None activity regs = record { mask = refl; frames = refl; cleanups = refl; kept = refl }
+plain_thread (Some row) activity regs = record { mask = refl; frames = refl; cleanups = refl; kept = kept_by activity.leaving }
+
+pub record IsPlainState (s : State) : Type 0 where
+  pub threads : (t : ℕ) → IsPlain (s.threads t)
+  pub keys : s.keys ≡ no_keys
+  pub actions : s.actions ≡ default_actions
+
+pub view_plain : {R : Type 0} (order : R → List ℕ) (k : Tables R) → IsPlainState (view order k)
+unfolding view
+view_plain order k = record {
+  threads = λ t. plain_thread (rows k.threads t) (activities_of k.activities t) (contexts_of k t);
+  keys = refl;
+  actions = refl;
+}

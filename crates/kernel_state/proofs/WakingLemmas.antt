@@ -13,7 +13,7 @@ use Rattle.posix_model.specs.Changes.{Outcome, go_on}
 use Rattle.posix_model.specs.Mutexes.{set_mutex, retake, reply_due, hand_off}
 use Rattle.posix_model.specs.Conditions.{leave, wake_from, wake}
 use Rattle.posix_model.specs.declared.RetakeReply.{RetakeReply}
-use Rattle.posix_model.specs.declared.Wait.TheVariants.{Join, Mutex as OfMutexWait, Cond, Reacquire}
+use Rattle.posix_model.specs.declared.Wait.TheVariants.{Join, Mutex as OfMutexWait, Cond, Reacquire, Signal as OfSignal, Sleep, Read}
 use Rattle.posix_model.proofs.StandingLemmas.{never, wants_waits}
 use Rattle.posix_model.proofs.GoodConditions.{mutex_there}
 use Rattle.kernel_state.specs.Changing.{Can, CanRetake, change_by}
@@ -84,6 +84,9 @@ stands_on c m (Waits (OfMutexWait k)) h e = absurd (let f : false ≡ true = h i
 stands_on c m (Waits (Cond d k deadline count)) h e =
     (deadline, (λ i. Waits (Cond (eqb-true d c h i) ((let f : Some k ≡ Some m = e in let same : k ≡ m = cc in same) i) deadline count)))
 stands_on c m (Waits (Reacquire k reply count)) h e = absurd (let f : false ≡ true = h in cc)
+stands_on c m (Waits (OfSignal set)) h e = absurd (let f : false ≡ true = h in cc)
+stands_on c m (Waits (Sleep until)) h e = absurd (let f : false ≡ true = h in cc)
+stands_on c m (Waits (Read buffer size)) h e = absurd (let f : false ≡ true = h in cc)
 stands_on c m (Ended value) h e = absurd (let f : false ≡ true = h in cc)
 
 -- a thread that waits for a condition is woken

@@ -10,7 +10,7 @@ use Rattle.posix_model.specs.Reports.{nothing_told}
 use Rattle.kernel_state.specs.View.{view, outcome}
 use Rattle.kernel_state.specs.Changing.{Can, change_by, IsListed, owed, AllCan}
 use Rattle.kernel_state.specs.declared.change.Change.{Change}
-use Rattle.kernel_state.specs.Kernels.{KernelState, remaining, IsIdle, owed_by}
+use Rattle.kernel_state.specs.Kernels.{KernelState, remaining, IsIdle, owed_by, IsSteady}
 use Rattle.kernel_state.specs.Moves.{InProgress}
 
 -- an instruction of the thread may begin a move: none is in progress, the process is not over, nothing pends, and the
@@ -50,12 +50,12 @@ abbrev pub NotesMore : {R : Type 0} → (R → List ℕ) → KernelState R → K
 NotesMore order k q change = (first : KernelState _) (g : Outcome) → HasNoted order first k g → Can change g → HasNotedSome order first q (change_by change g)
 
 -- a move can begin of the small changes that were noted: there are some, each can be made in its turn, and the state
--- is good when all are made
+-- is steady when all are made
 pub record CanStart {R : Type 0} (order : R → List ℕ) (k : KernelState R) : Type 0 where
   pub idle : k.main ≡ None
   pub some : is_nil (remaining k.rest) ≡ false
   pub can : AllCan (outcome order k.tables) (remaining k.rest)
-  pub good : IsGood (owed (outcome order k.tables) (remaining k.rest)).state
+  pub steady : IsSteady (owed (outcome order k.tables) (remaining k.rest)).state
 
 -- a move of one small change at least and 512 at most was begun and nothing else: what it owes the machine, with its
 -- thread and its main line, is one change of the definitions, each of its small changes can be made in its turn, and

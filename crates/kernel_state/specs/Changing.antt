@@ -5,17 +5,17 @@ use Rattle.thread_base.specs.Holders.{is_held_by, is_free}
 use Rattle.thread_base.specs.Objects.{free_mutex, new_condition, holder_in, waiters_in, cond_mutex, cond_waiters, with_holder, with_waiters, appended, entered, without_waiter}
 use Rattle.thread_base.specs.Orders.{is_in, without}
 use Rattle.rv_exec.specs.Window.{is_inside}
-use Rattle.posix_model.specs.State.{State, Thread, Mutex, Condition, Normal, Ready, no_thread, none_pending, is_ready, is_live}
-use Rattle.posix_model.specs.Changes.{Outcome, set_thread, with_reply, append, to_end, await, in_exit, answer}
+use Rattle.posix_model.specs.State.{State, Thread, Mutex, Condition, Normal, Ready, no_thread, none_pending, no_keys, first_cancellation, is_ready, is_live}
+use Rattle.posix_model.specs.Changes.{Outcome, set_thread, with_reply, append, to_end, await, answer}
 use Rattle.posix_model.specs.Threads.{exists, free_number, first_registers}
 use Rattle.posix_model.specs.Mutexes.{set_mutex, retake}
 use Rattle.posix_model.specs.Conditions.{set_condition}
-use Rattle.posix_model.specs.Leaving.{remains, ended}
-use Rattle.posix_model.specs.Deliveries.{set_pending}
+use Rattle.posix_model.specs.Leaving.{exit_with, remains, ended}
+use Rattle.posix_model.specs.Deliveries.{set_pending, killed_by}
 use Rattle.kernel_state.specs.View.{one_pending}
 use Rattle.kernel_state.specs.declared.change.Beginning.{Beginning}
 use Rattle.kernel_state.specs.declared.change.Change.{Change}
-use Rattle.kernel_state.specs.declared.change.Change.TheVariants.{Thread as OfThread, Mutex as OfMutex, Condition as OfCondition, Signal as OfSignal, Retake, Output, Over}
+use Rattle.kernel_state.specs.declared.change.Change.TheVariants.{Thread as OfThread, Mutex as OfMutex, Condition as OfCondition, Signal as OfSignal, Retake, Output, Over, Kill}
 use Rattle.kernel_state.specs.declared.change.ConditionChange.{ConditionChange}
 use Rattle.kernel_state.specs.declared.change.ConditionChange.TheVariants.{Make as MakeCondition, Destroy as DestroyCondition, Enter, Leave}
 use Rattle.kernel_state.specs.declared.change.MutexChange.{MutexChange}
@@ -32,6 +32,10 @@ begun_thread b = record {
   base = b.base;
   policy = b.policy;
   used = 0;
+  mask = 0;
+  frames = [];
+  cleanups = [];
+  cancellation = first_cancellation;
   detached = b.detached;
   phase = Normal;
   standing = Ready;
@@ -46,7 +50,7 @@ abbrev pub thread_change_by : ThreadChange → ℕ → Outcome → Outcome
 thread_change_by (Reply error value) t g = record g { state = set_thread g.state t (with_reply (g.state.threads t) error value) }
 thread_change_by ToEnd t g = record g { state = to_end g.state t }
 thread_change_by (Create beginning) t g = record g { state = append g.state t (begun_thread beginning) }
-thread_change_by (StartExit value) t g = record g { state = set_thread g.state t (in_exit (g.state.threads t) value) }
+thread_change_by (StartExit value) t g = record g { state = exit_with g.state t value }
 thread_change_by (Await wait) t g = record g { state = await g.state t wait }
 thread_change_by (Answer error value) t g = answer g t error value
 thread_change_by Detach t g = record g { state = set_thread g.state t (record (g.state.threads t) { detached = true }) }
@@ -82,6 +86,7 @@ change_by (OfSignal t signal change) g = record g { state = set_pending g.state 
 change_by (Retake t m count reply) g = retake g m t count reply
 change_by (Output descriptor buffer length) g = record g { report = record g.report { out_fd = descriptor; out_buf = buffer; out_len = length } }
 change_by (Over ending) g = record g { state = record g.state { over = Some ending } }
+change_by (Kill signal count) g = killed_by signal count g
 
 -- a thread is there, and in the ready list
 abbrev pub IsListed : State → ℕ → Type 0
@@ -109,7 +114,7 @@ CanThread (Await wait) t s = IsListed s t
 CanThread (Answer error value) t s = (is_in t s.ready ≡ false) × (is_live (s.threads t).standing ≡ true)
 CanThread Detach t s = exists s t ≡ true
 CanThread Free t s = (exists s t ≡ true) × (is_in t s.ready ≡ false)
-CanThread (End value joined) t s = IsListed s t × (s.pending ≡ none_pending) × HasNoMutex s t
+CanThread (End value joined) t s = IsListed s t × (s.pending ≡ none_pending) × HasNoMutex s t × (s.keys ≡ no_keys)
 
 -- when a change of one mutex may be made
 abbrev pub CanMutex : MutexChange → ℕ → (ℕ → Option Mutex) → Type 0
@@ -148,6 +153,7 @@ Can (OfSignal t signal change) g = CanSignal change t signal g.state.pending
 Can (Retake t m count reply) g = CanRetake t m g.state
 Can (Output descriptor buffer size) g = IsTrue (is_inside (length g.state.memory) buffer size)
 Can (Over ending) g = Unit {0}
+Can (Kill signal count) g = Unit {0}
 
 -- what a list of changes still makes, one after another
 abbrev pub owed : Outcome → List Change → Outcome

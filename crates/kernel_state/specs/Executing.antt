@@ -5,7 +5,7 @@ use Rattle.rv_exec.specs.declared.Event.{Event}
 use Rattle.rv_exec.specs.declared.Event.TheVariants.{Next, Ecall, Fault, Return}
 use Rattle.posix_model.specs.State.{State, Registers}
 use Rattle.posix_model.specs.Changes.{set_registers}
-use Rattle.posix_model.specs.Deliveries.{Delivery}
+use Rattle.posix_model.specs.Deliveries.{Delivery, Gives}
 use Rattle.kernel_state.specs.declared.tables.Fault.{Fault as Pending}
 
 -- the effect of the instruction at which a thread stands (RISC-V)
@@ -25,4 +25,4 @@ HasExecuted s t (Return which) r = (effect_at s t ≡ Returns which) × (r ≡ s
 -- the delivery of a fault's signal
 abbrev pub delivery_by : Option Pending → Option Delivery
 delivery_by None = None
-delivery_by (Some fault) = Some (record { thread = fault.thread; signal = fault.signal })
+delivery_by (Some fault) = Some (Gives fault.thread fault.signal fault.thread)

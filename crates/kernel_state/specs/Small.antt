@@ -36,6 +36,12 @@ threads_of_list ReadyList s = s.ready
 threads_of_list (MutexWaiters m) s = waiters_in (s.mutexes m)
 threads_of_list (CondWaiters c) s = cond_waiters (s.conditions c)
 
+-- what no small change reaches is as it was: keys, actions, time, alarm, input and memory
+abbrev pub IsUnmoved : State → State → Type 0
+IsUnmoved s r =
+    (r.keys ≡ s.keys) × (r.actions ≡ s.actions) × (r.now ≡ s.now) × (r.alarm ≡ s.alarm)
+    × (r.input ≡ s.input) × (r.is_input_over ≡ s.is_input_over) × (r.memory ≡ s.memory)
+
 -- from one state to another there is one small change: beside the record of one thread, one object, and one place of
 -- one list, at which a thread was put in, taken out or moved, everything is as it was
 pub record IsSmall (s r : State) : Type 0 where
@@ -47,4 +53,4 @@ pub record IsSmall (s r : State) : Type 0 where
   pub objects : (o : Object) → o ≢ object → IsSame o s r
   pub lists : (l : ThreadList) → l ≢ list → threads_of_list l r ≡ threads_of_list l s
   pub place : without placed (threads_of_list list r) ≡ without placed (threads_of_list list s)
-  pub memory : r.memory ≡ s.memory
+  pub others : IsUnmoved s r

@@ -1,5 +1,5 @@
 -- The machine state that the kernel's tables show.
-use Rattle.std.specs.Prelude.{ℕ, ◌≡◌, true, false, List, Option, Some, None}
+use Rattle.std.specs.Prelude.{ℕ, ◌≡◌, ◌<◌, true, false, List, [], Option, Some, None}
 use Rattle.thread_base.specs.Maps.{put, numbered}
 use Rattle.thread_base.specs.Orders.{is_in}
 use Rattle.thread_base.specs.declared.Policy.TheVariants.{Other}
@@ -12,9 +12,10 @@ use Rattle.cond_table.specs.ConditionMap.{conditions as condition_map}
 use Rattle.context_frames.specs.Contexts.{saved_of}
 use Rattle.context_frames.specs.declared.Saved.{Saved}
 use Rattle.context_frames.specs.declared.Saved.TheVariants.{User, Tail, Fresh}
-use Rattle.posix_model.specs.State.{State, Thread, Registers, Phase, Normal, Leaving, Standing, Ready, Waits, Ended, no_thread, none_pending, Mutex}
+use Rattle.posix_model.specs.State.{State, Thread, Registers, Phase, Normal, Leaving, Cancellation, Standing, Ready, Waits, Ended, no_thread, none_pending, first_cancellation, is_ready, Mutex}
 use Rattle.posix_model.specs.Scheduling.{eff}
-use Rattle.posix_model.specs.Changes.{Outcome}
+use Rattle.posix_model.specs.Changes.{Outcome, no_cancellation}
+use Rattle.posix_model.specs.Start.{start_state}
 use Rattle.posix_model.specs.declared.Wait.{Wait}
 use Rattle.kernel_state.specs.declared.activity.Activity.{Activity}
 use Rattle.kernel_state.specs.declared.activity.Activities.{Activities}
@@ -40,10 +41,15 @@ no_activity = record { wait = None; leaving = None }
 unfoldable pub activities_of : Activities → ℕ → Activity
 activities_of table = numbered no_activity table.activities
 
--- a thread is in its exit where a value of it is kept (POSIX.1 pthread_exit)
+-- a thread is in its exit where a value of it is kept; no key has a destructor yet (POSIX.1 pthread_exit)
 abbrev pub phase_of : Option ℕ → Phase
 phase_of None = Normal
-phase_of (Some value) = Leaving value
+phase_of (Some value) = Leaving value 0 0
+
+-- nobody is cancelled yet, and in its exit nobody can be (POSIX.1 pthread_exit)
+abbrev pub cancellation_of : Option ℕ → Cancellation
+cancellation_of None = first_cancellation
+cancellation_of (Some value) = no_cancellation
 
 -- a thread has ended where its value is kept, and else waits where a wait is, and else is ready (POSIX.1 thread states)
 abbrev pub standing_of : Option ℕ → Option Wait → Standing
@@ -51,13 +57,17 @@ standing_of (Some value) wait = Ended value
 standing_of None (Some wait) = Waits wait
 standing_of None None = Ready
 
--- a thread's record
+-- a thread's record; it blocks no signal and has no frame and no cleanup routine yet
 abbrev pub thread_by : Row → Activity → Registers → Thread
 thread_by row activity registers = record {
   registers = registers;
   base = row.base;
   policy = row.policy;
   used = row.used;
+  mask = 0;
+  frames = [];
+  cleanups = [];
+  cancellation = cancellation_of activity.leaving;
   detached = row.detached;
   phase = phase_of activity.leaving;
   standing = standing_of row.ended activity.wait;
@@ -98,9 +108,13 @@ abbrev pub mutex_by : Option MutexState → List ℕ → Option Mutex
 mutex_by None waiters = None
 mutex_by (Some state) waiters = Some (mutex_of state waiters)
 
+-- what the tables do not keep yet is as at the start: keys, actions, time, alarm and input
+abbrev pub unkept : State
+unkept = start_state [] 0
+
 -- the machine state that the tables show
 unfoldable pub view : {R : Type 0} → (R → List ℕ) → Tables R → State
-view order k = record {
+view order k = record unkept {
   threads = threads_of (rows k.threads) (activities_of k.activities) (contexts_of k);
   ready = order k.ready;
   mutexes = mutex_map k.mutexes;
@@ -117,6 +131,10 @@ outcome order k = record { state = view order k; report = k.report }
 -- the row of thread 1 at the start
 abbrev pub main_row : Row
 main_row = record { base = 8; policy = Other; used = 0; detached = false; joiner = None; ended = None }
+
+-- a signal pends on ready threads alone, which take it at once
+abbrev pub IsPrompt : State → Type 0
+IsPrompt s = (t sig : ℕ) → 0 < s.pending t sig → is_ready (s.threads t).standing ≡ true
 
 -- another ready list
 abbrev pub with_ready : State → List ℕ → State

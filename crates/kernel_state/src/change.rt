@@ -114,6 +114,11 @@ pub enum Change {
     Over {
         ending: Ending,
     },
+    /// A signal that came so often ends the process at once.
+    Kill {
+        signal: Sig,
+        count: u64,
+    },
 }
 
 impl Change {

@@ -12,7 +12,7 @@ ghost use Rattle.posix_model.specs.Threads.{exists, free_number, joiner, some_li
 ghost use Rattle.thread_base.specs.Maps.{put};
 ghost use Rattle.posix_model.specs.Deliveries.{next_delivery};
 ghost use Rattle.kernel_state.specs.Executing.{HasExecuted, delivery_by};
-ghost use Rattle.kernel_state.specs.View.{view, thread_in, registers_of, context_of, contexts_of, with_ready, main_row, pending_of, AreCurrent, StayCurrent};
+ghost use Rattle.kernel_state.specs.View.{view, thread_in, registers_of, context_of, contexts_of, with_ready, main_row, pending_of, IsPrompt, AreCurrent, StayCurrent};
 
 use crate::activity::{Activities, Activity};
 use cond_table::Conds;
@@ -259,6 +259,7 @@ impl<R: Ready + Drop> Tables<R> {
 
     /// The fault whose signal is delivered next; None exactly where no delivery is next.
     pub fn fault(&self) -> Option<Fault>
+        requires { IsPrompt (view R.order self.now) }
         ensures next { next_delivery (view R.order self.now) ≡ delivery_by result }
         ensures pending { (view R.order self.now).pending ≡ pending_of result }
     {

@@ -312,6 +312,18 @@ impl<R: Ready + Drop> Tables<R> {
         self.over = Some(ending);
     }
 
+    /// Ends the process by a signal at once, and tells how often it came.
+    #[tactic(auto, unfolding(crate::specs::View::outcome, crate::specs::View::view), using(crate::proofs::CurrentLemmas::alike))]
+    fn kill(&mut self, signal: Sig, count: u64)
+        ensures outcome { outcome R.order self.new ≡ change_by (Change.Kill signal count) (outcome R.order self.old) }
+        ensures current { StayCurrent R.order R.prio self.old self.new }
+    {
+        self.over = Some(Ending::Killed(signal));
+        self.report.took = 2;
+        self.report.took_sig = signal.number();
+        self.report.took_count = count;
+    }
+
     /// Makes a small change. The priorities of the ready list stay those of its threads.
     #[tactic(auto, unfolding(crate::specs::View::outcome))]
     pub(crate) fn make(&mut self, change: Change)
@@ -340,6 +352,7 @@ impl<R: Ready + Drop> Tables<R> {
                 length,
             } => self.output(descriptor, buffer, length),
             Change::Over { ending } => self.finish(ending),
+            Change::Kill { signal, count } => self.kill(signal, count),
         }
     }
 }

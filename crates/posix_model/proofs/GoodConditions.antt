@@ -18,7 +18,7 @@ use Rattle.posix_model.specs.Good.{standings, IsGood, IsSoundCondition, AreSound
 use Rattle.posix_model.specs.declared.RetakeReply.{RetakeReply}
 use Rattle.posix_model.specs.declared.RetakeReply.TheVariants.{Answer}
 use Rattle.posix_model.specs.declared.Wait.TheVariants.{Cond, Reacquire}
-use Rattle.posix_model.proofs.StandingLemmas.{never, is_none, ready_live, ready_wants, ready_waits_on}
+use Rattle.posix_model.proofs.StandingLemmas.{never, is_none, ready_live, ready_wants, ready_waits_on, steady}
 use Rattle.posix_model.proofs.ListLemmas.{each_put}
 use Rattle.posix_model.proofs.MutexLemmas.{mutex_stays, mutexes_stay}
 use Rattle.posix_model.proofs.ConditionLemmas.{condition_idle, condition_left, condition_entered, conditions_put}
@@ -30,7 +30,7 @@ use Rattle.posix_model.proofs.GoodHands.{sound_here, good_queued, good_given, go
 good_condition : (s : State) (c : ℕ) (o : Option Condition) → IsGood s → IsSoundCondition (standings s) s.mutexes c o → IsGood (set_condition s c o)
 good_condition s c o good here =
     good_alike s (set_condition s c o) refl good good.ready good.joining good.mutexes
-    (each_put (IsSoundCondition (standings s) s.mutexes) s.conditions c o here (λ k ne. good.conditions k))
+    (each_put (IsSoundCondition (standings s) s.mutexes) s.conditions c o here (λ k ne. good.conditions k)) good.waits good.signals
 
 -- the mutex with which a thread waits is there
 pub mutex_there : (s : State) (t c m count : ℕ) (deadline : Option ℕ) → IsGood s → (s.threads t).standing ≡ Waits (Cond c m deadline count) → is_some (s.mutexes m) ≡ true
@@ -42,7 +42,7 @@ mutex_there s t c m count deadline good stands =
 -- a thread that waits for a condition leaves it, and gets its mutex or waits for it
 module _ (g : Outcome) (t c m count : ℕ) (deadline : Option ℕ) (reply : RetakeReply) (good : IsGood g.state) (stands : (g.state.threads t).standing ≡ Waits (Cond c m deadline count)) where
   many : IsCount count
-  many = subst (λ st. IsCount (count_due st)) stands (good.counts t)
+  many = subst (λ st. IsCount (count_due st)) stands (good.waits t).count
 
   left : (st : Standing) → ((k : ℕ) → waits_on k st ≡ false)
       → AreSoundConditions (put (standings g.state) t st) g.state.mutexes (put g.state.conditions c (without_waiter t (g.state.conditions c)))
@@ -60,7 +60,8 @@ module _ (g : Outcome) (t c m count : ℕ) (deadline : Option ℕ) (reply : Reta
   good_retaken mutex there false taken =
       let again : Standing = Waits (Reacquire m reply count) in
       good_queued g.state m mutex good there t (Reacquire m reply count) g.state.ready _ taken (good.within t (ap is_absent stands))
-      (ready_on (standings g.state) t again g.state.ready (sym (ap is_ready stands)) good.ready) refl (λ k. ap (wants k) stands) (left again (λ k. refl)) many
+      (ready_on (standings g.state) t again g.state.ready (sym (ap is_ready stands)) good.ready) refl (λ k. ap (wants k) stands) (left again (λ k. refl))
+      (steady g.state.now again many refl refl)
 
   good_retake_of : (o : Option Mutex) → g.state.mutexes m ≡ o → IsGood (retake_of (leave g c t) m o t count reply).state
   good_retake_of None none = absurd (never false (sym (ap is_some none) ∙ mutex_there g.state t c m count deadline good stands) refl)
@@ -110,7 +111,7 @@ good_await_condition s t c condition m mutex good ready here there held free =
     (condition_entered (standings s) s.mutexes t c m count condition range (ready_waits_on c (standings s t) ready) (ap is_some there) free
     (subst (IsSoundCondition (standings s) s.mutexes c) here (good.conditions c)))
     good.conditions)
-    (may.least, may.most)
+    (steady s.now st (may.least, may.most) refl refl)
 
 good_cond_wait_of : (s : State) (t c : ℕ) (condition : Option Condition) (m : ℕ) (mutex : Option Mutex) → IsGood s → is_ready (standings s t) ≡ true
     → s.conditions c ≡ condition → s.mutexes m ≡ mutex → GoodCall (cond_wait_of s t c condition m mutex)

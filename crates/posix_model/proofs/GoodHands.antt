@@ -14,7 +14,7 @@ use Rattle.thread_base.proofs.PriorityLemmas.{first_in, first_some}
 use Rattle.posix_model.specs.State.{State, Thread, Mutex, Condition, Standing, Ready, Waits, EndOf, MutexAt, ConditionAt, aim, target, is_target, is_ready, is_live, wants, count_due}
 use Rattle.posix_model.specs.Changes.{begun, resumed}
 use Rattle.posix_model.specs.Mutexes.{set_mutex, with_waiter, reply_due, hand_off}
-use Rattle.posix_model.specs.Good.{standings, IsGood, IsReadyList, IsSoundMutex, AreSoundConditions, IsCount}
+use Rattle.posix_model.specs.Good.{standings, IsGood, IsReadyList, IsSoundMutex, AreSoundConditions, IsCount, IsSoundWait}
 use Rattle.posix_model.specs.declared.RetakeReply.{RetakeReply}
 use Rattle.posix_model.specs.declared.RetakeReply.TheVariants.{Answer, Cancel}
 use Rattle.posix_model.specs.declared.Wait.{Wait}
@@ -30,7 +30,7 @@ pub good_mutex : (s : State) (m : ℕ) (o : Option Mutex) → IsGood s
     → IsSoundMutex (standings s) m o → IsGood (set_mutex s m o)
 good_mutex s m o good stay here =
     good_alike s (set_mutex s m o) refl good good.ready good.joining (each_put (IsSoundMutex (standings s)) s.mutexes m o here (λ k ne. good.mutexes k))
-    (conditions_on (standings s) s.mutexes (put s.mutexes m o) s.conditions stay good.conditions)
+    (conditions_on (standings s) s.mutexes (put s.mutexes m o) s.conditions stay good.conditions) good.waits good.signals
 
 -- who goes on with a mutex is detached where it was
 resumed_detached : (thread : Thread) (reply : RetakeReply) → (resumed thread reply).detached ≡ thread.detached
@@ -55,9 +55,9 @@ module _ (s : State) (m : ℕ) (mutex : Mutex) (good : IsGood s) (there : s.mute
   -- a thread that waited for no mutex waits after the others for one that is not free, and the conditions change beside
   pub good_queued : (t : ℕ) (wait : Wait) (list : List ℕ) (conditions : ℕ → Option Condition) → is_free mutex.holder ≡ false → IsTid t
       → IsReadyList (put (standings s) t (Waits wait)) list → aim wait ≡ MutexAt m → ((k : ℕ) → wants k (standings s t) ≡ false)
-      → AreSoundConditions (put (standings s) t (Waits wait)) s.mutexes conditions → IsCount (count_due (Waits wait))
+      → AreSoundConditions (put (standings s) t (Waits wait)) s.mutexes conditions → IsSoundWait s.now (Waits wait)
       → IsGood (asleep s t wait list (put s.mutexes m (Some (with_waiter t mutex))) conditions)
-  good_queued t wait list conditions taken range listed aims wanted agreed many =
+  good_queued t wait list conditions taken range listed aims wanted agreed here =
       let st : Standing = Waits wait in
       let mutexes = put s.mutexes m (Some (with_waiter t mutex)) in
       good_asleep s t wait list mutexes conditions good range (λ u. ap (is_target (EndOf u)) aims) listed
@@ -65,7 +65,7 @@ module _ (s : State) (m : ℕ) (mutex : Mutex) (good : IsGood s) (there : s.mute
       (λ k ne. ap (is_target (MutexAt k)) aims ∙ ne_eqb m k (λ e. ne (sym e)) ∙ sym (wanted k)) refl
       (mutex_entered (standings s) t st m mutex range (wanted m) (ap (is_target (MutexAt m)) aims ∙ eq-eqb m m refl) refl taken sound_here))
       (conditions_on (put (standings s) t st) s.mutexes mutexes conditions (λ c k e. stay_put s.mutexes m (with_waiter t mutex) k) agreed)
-      many
+      here
 
   -- a thread that waited has the mutex from now on, whose list it has left, and becomes ready; the conditions change beside
   pub good_given : (t count : ℕ) (reply : RetakeReply) (ws : List ℕ) (conditions : ℕ → Option Condition) → is_ready (standings s t) ≡ false → IsTid t → IsCount count
@@ -90,7 +90,7 @@ module _ (s : State) (m : ℕ) (mutex : Mutex) (good : IsGood s) (there : s.mute
       let wanted : wants m (standings s u) ≡ true = sym (sound_here.listed u) ∙ first_in p mutex.waiters u e in
       let is = target_is (MutexAt m) (target (standings s u)) wanted in
       let was = wants_waits m (standings s u) wanted in
-      good_given u (count_due (standings s u)) (reply_due (standings s u)) (without u mutex.waiters) s.conditions was.0 (good.within u was.1) (good.counts u)
+      good_given u (count_due (standings s u)) (reply_due (standings s u)) (without u mutex.waiters) s.conditions was.0 (good.within u was.1) (good.waits u).count
       (λ k ne. ap (is_target (MutexAt k)) is ∙ ne_eqb m k (λ f. ne (sym f)))
       (mutex_left (standings s) u Ready m mutex refl refl sound_here)
       (conditions_apart (standings s) s.mutexes u Ready s.conditions (λ c. refl) (λ c. ap (is_target (ConditionAt c)) is) good.conditions)

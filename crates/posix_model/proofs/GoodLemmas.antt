@@ -1,51 +1,60 @@
 -- Goodness by its facets, and each change of which moves are made and that leaves mutexes and conditions as they are.
-use Rattle.std.proofs.Common.{◌≡◌, ◌∙◌, ap, sym, refl, subst, ℕ, Bool, true, false, List, Option, None}
+use Rattle.std.proofs.Common.{◌≡◌, ◌∙◌, ap, sym, refl, subst, ℕ, Bool, true, false, List, Option, Some, None}
 use Rattle.std.proofs.lemmas.Bool.{eqb-true}
+use Rattle.thread_base.specs.Actions.{ignores}
 use Rattle.thread_base.specs.Maps.{put}
 use Rattle.thread_base.specs.Numbers.{IsTid}
 use Rattle.thread_base.specs.Objects.{appended}
 use Rattle.thread_base.specs.Orders.{without}
 use Rattle.thread_base.specs.Priority.{tids}
+use Rattle.thread_base.specs.declared.action.Action.{Action}
 use Rattle.thread_base.proofs.MapLemmas.{map_put, put_got, kept}
-use Rattle.thread_base.proofs.OrderLemmas.{IsOrder-push, IsOrder-filter, not_in-without, is_in-to_end}
+use Rattle.thread_base.proofs.OrderLemmas.{IsOrder-push, IsOrder-filter, not_in-without, is_in-to_end, within as in_order_within}
+use Rattle.thread_base.proofs.PriorityLemmas.{first_in}
 use Rattle.thread_base.proofs.SearchLemmas.{in_tids, find_none, any_none}
-use Rattle.posix_model.specs.State.{State, Thread, Mutex, Condition, Standing, Absent, Ready, Waits, EndOf, MutexAt, ConditionAt, aim, target, is_target, no_thread, is_absent, is_ready, is_live, joins, wants, waits_on, count_due}
+use Rattle.posix_model.specs.State.{State, Thread, Mutex, Condition, Standing, Absent, Ready, Waits, EndOf, MutexAt, ConditionAt, aim, target, is_target, no_thread, is_absent, is_ready, is_live, joins, wants, waits_on}
+use Rattle.posix_model.specs.Scheduling.{eff, chosen}
 use Rattle.posix_model.specs.Changes.{Outcome, set_thread, append, to_end, await, reply, with_reply, answer}
 use Rattle.posix_model.specs.Threads.{joiner, has_joiner}
 use Rattle.posix_model.specs.Leaving.{without_thread}
-use Rattle.posix_model.specs.Good.{standings, detachments, IsReadyList, AreWithin, MayJoin, AreJoining, AreSoundMutexes, AreSoundConditions, IsCount, AreCounts, IsGood}
+use Rattle.posix_model.specs.Deliveries.{set_pending}
+use Rattle.posix_model.specs.Good.{standings, detachments, IsReadyList, AreWithin, MayJoin, AreJoining, AreSoundMutexes, AreSoundConditions, IsSoundWait, AreSoundWaits, AreSoundSignals, IsGood}
 use Rattle.posix_model.specs.declared.Wait.{Wait}
 use Rattle.posix_model.specs.declared.Wait.TheVariants.{Join}
-use Rattle.posix_model.proofs.StandingLemmas.{never, ready_live, ready_target, ready_wants, ready_waits_on, target_is, waiting, once, dead}
+use Rattle.posix_model.proofs.StandingLemmas.{never, ready_live, ready_target, ready_wants, ready_waits_on, target_is, waiting, once, steady, ready_wait, absent_wait, dead}
 use Rattle.posix_model.proofs.ListLemmas.{each_put, listed_on, listed_appended, listed_without}
 use Rattle.posix_model.proofs.MutexLemmas.{mutexes_stay, mutexes_orphaned}
 use Rattle.posix_model.proofs.ConditionLemmas.{conditions_on, conditions_apart, stay_orphaned}
 
 -- goodness over what the facets read
-pub record AreGood (standing : ℕ → Standing) (detached : ℕ → Bool) (list : List ℕ) (mutex : ℕ → Option Mutex) (condition : ℕ → Option Condition) : Type 0 where
+pub record AreGood (standing : ℕ → Standing) (detached : ℕ → Bool) (list : List ℕ) (mutex : ℕ → Option Mutex) (condition : ℕ → Option Condition)
+    (now : ℕ) (alarm : Option ℕ) (action : ℕ → Action) (counts : ℕ → ℕ → ℕ) : Type 0 where
   pub ready : IsReadyList standing list
   pub within : AreWithin standing
   pub joining : AreJoining standing detached
   pub mutexes : AreSoundMutexes standing mutex
   pub conditions : AreSoundConditions standing mutex condition
-  pub counts : AreCounts standing
+  pub waits : AreSoundWaits now standing
+  pub signals : AreSoundSignals now alarm action counts
 
 -- a state is good by what its threads are doing and which are detached
 good_by : (r : State) (standing : ℕ → Standing) (detached : ℕ → Bool) → standings r ≡ standing → detachments r ≡ detached
-    → AreGood standing detached r.ready r.mutexes r.conditions → IsGood r
+    → AreGood standing detached r.ready r.mutexes r.conditions r.now r.alarm r.actions r.pending → IsGood r
 good_by r standing detached a b good = record {
   ready = subst (λ f. IsReadyList f r.ready) (sym a) good.ready;
   within = subst AreWithin (sym a) good.within;
   joining = subst (λ f. AreJoining f (detachments r)) (sym a) (subst (AreJoining standing) (sym b) good.joining);
   mutexes = subst (λ f. AreSoundMutexes f r.mutexes) (sym a) good.mutexes;
   conditions = subst (λ f. AreSoundConditions f r.mutexes r.conditions) (sym a) good.conditions;
-  counts = subst AreCounts (sym a) good.counts;
+  waits = subst (AreSoundWaits r.now) (sym a) good.waits;
+  signals = good.signals;
 }
 
 -- where each thread does what it did, the other facets are given
 pub good_alike : (s r : State) → standings r ≡ standings s → IsGood s → IsReadyList (standings s) r.ready → AreJoining (standings s) (detachments r)
-    → AreSoundMutexes (standings s) r.mutexes → AreSoundConditions (standings s) r.mutexes r.conditions → IsGood r
-good_alike s r same good ready joining sound agreed =
+    → AreSoundMutexes (standings s) r.mutexes → AreSoundConditions (standings s) r.mutexes r.conditions
+    → AreSoundWaits r.now (standings s) → AreSoundSignals r.now r.alarm r.actions r.pending → IsGood r
+good_alike s r same good ready joining sound agreed waits signals =
     good_by r (standings s) (detachments r) same refl
     (record {
       ready = ready;
@@ -53,12 +62,13 @@ good_alike s r same good ready joining sound agreed =
       joining = joining;
       mutexes = sound;
       conditions = agreed;
-      counts = good.counts;
+      waits = waits;
+      signals = signals;
     })
 
 -- one thread changes, and the rest of the state
 pub good_change : (s : State) (t : ℕ) (thread : Thread) (r : State) → r.threads ≡ put s.threads t thread
-    → AreGood (put (standings s) t thread.standing) (put (detachments s) t thread.detached) r.ready r.mutexes r.conditions → IsGood r
+    → AreGood (put (standings s) t thread.standing) (put (detachments s) t thread.detached) r.ready r.mutexes r.conditions r.now r.alarm r.actions r.pending → IsGood r
 good_change s t thread r e good =
     let standing = λ (x : Thread). x.standing in
     let detached = λ (x : Thread). x.detached in
@@ -72,12 +82,12 @@ pub good_set : (s : State) (t : ℕ) (thread : Thread) → thread.standing ≡ s
 good_set s t thread standing detached good =
     good_alike s (set_thread s t thread) (λ i u. kept (λ (x : Thread). x.standing) s.threads t u thread standing i) good good.ready
     (subst (AreJoining (standings s)) (λ i u. sym (kept (λ (x : Thread). x.detached) s.threads t u thread detached) i) good.joining)
-    good.mutexes good.conditions
+    good.mutexes good.conditions good.waits good.signals
 
 pub good_reply : (s : State) (t error value : ℕ) → IsGood s → IsGood (reply s t error value)
 good_reply s t error value good = good_set s t (with_reply (s.threads t) error value) refl refl good
 
--- the ready list, the numbers and the counts, where one thread changes
+-- the ready list, the numbers and the waits, where one thread changes
 module _ (standing : ℕ → Standing) (t : ℕ) (st : Standing) where
   pub ready_on : (list : List ℕ) → is_ready st ≡ is_ready (standing t) → IsReadyList standing list → IsReadyList (put standing t st) list
   ready_on list same sound = record { order = sound.order; listed = listed_on is_ready standing t st list sound.listed same }
@@ -97,8 +107,23 @@ module _ (standing : ℕ → Standing) (t : ℕ) (st : Standing) where
   pub within_put : AreWithin standing → (is_absent st ≡ false → IsTid t) → AreWithin (put standing t st)
   within_put within range = each_put (λ u x. is_absent x ≡ false → IsTid u) standing t st range (λ u ne. within u)
 
-  pub counts_put : AreCounts standing → IsCount (count_due st) → AreCounts (put standing t st)
-  counts_put counts many = each_put (λ u x. IsCount (count_due x)) standing t st many (λ u ne. counts u)
+  pub waits_put : (now : ℕ) → AreSoundWaits now standing → IsSoundWait now st → AreSoundWaits now (put standing t st)
+  waits_put now waits here = each_put (λ u x. IsSoundWait now x) standing t st here (λ u ne. waits u)
+
+-- what pends in one place changes
+signals_put : (now : ℕ) (alarm : Option ℕ) (action : ℕ → Action) (counts : ℕ → ℕ → ℕ) → AreSoundSignals now alarm action counts → (place : ℕ) (f : ℕ → ℕ)
+    → ((sig : ℕ) → ignores (action sig) sig ≡ true → f sig ≡ 0) → AreSoundSignals now alarm action (put counts place f)
+signals_put now alarm action counts sound place f heeded = record {
+  later = sound.later;
+  heeded = each_put (λ p (count : ℕ → ℕ). (sig : ℕ) → ignores (action sig) sig ≡ true → count sig ≡ 0) counts place f heeded (λ p ne. sound.heeded p);
+}
+
+-- what pends of a signal that is not ignored changes, or nothing of it pends
+pub good_pending : (s : State) (place sig count : ℕ) → IsGood s → (ignores (s.actions sig) sig ≡ true → count ≡ 0) → IsGood (set_pending s place sig count)
+good_pending s place sig count good heeded =
+    good_alike s (set_pending s place sig count) refl good good.ready good.joining good.mutexes good.conditions good.waits
+    (signals_put s.now s.alarm s.actions s.pending good.signals place (put (s.pending place) sig count)
+    (each_put (λ u n. ignores (s.actions u) u ≡ true → n ≡ 0) (s.pending place) sig count heeded (λ u ne. good.signals.heeded place u)))
 
 module _ (standing : ℕ → Standing) (detached : ℕ → Bool) (t : ℕ) (sound : AreJoining standing detached) where
   -- a thread changes that joins nobody anew, and whoever joins it may
@@ -158,7 +183,8 @@ good_awoken s t thread mutexes conditions good away range joinable sound agreed 
       joining = joining_put (standings s) (detachments s) t good.joining Ready thread.detached (λ u h. absurd (never false h refl)) (λ v j. (refl, joinable v j));
       mutexes = sound;
       conditions = agreed;
-      counts = counts_put (standings s) t Ready good.counts once;
+      waits = waits_put (standings s) t Ready s.now good.waits (ready_wait s.now);
+      signals = good.signals;
     })
 
 -- a thread waits for no end from now on, and the ready list, mutexes and conditions change beside
@@ -168,8 +194,8 @@ asleep s t wait list mutexes conditions = record (await s t wait) { ready = list
 pub good_asleep : (s : State) (t : ℕ) (wait : Wait) (list : List ℕ) (mutexes : ℕ → Option Mutex) (conditions : ℕ → Option Condition) → IsGood s → IsTid t
     → ((u : ℕ) → is_target (EndOf u) (aim wait) ≡ false) → IsReadyList (put (standings s) t (Waits wait)) list
     → AreSoundMutexes (put (standings s) t (Waits wait)) mutexes → AreSoundConditions (put (standings s) t (Waits wait)) mutexes conditions
-    → IsCount (count_due (Waits wait)) → IsGood (asleep s t wait list mutexes conditions)
-good_asleep s t wait list mutexes conditions good range idle listed sound agreed many =
+    → IsSoundWait s.now (Waits wait) → IsGood (asleep s t wait list mutexes conditions)
+good_asleep s t wait list mutexes conditions good range idle listed sound agreed here =
     good_change s t (record (s.threads t) { standing = Waits wait }) (asleep s t wait list mutexes conditions) refl
     (record {
       ready = listed;
@@ -180,7 +206,8 @@ good_asleep s t wait list mutexes conditions good range idle listed sound agreed
           (λ v j. (refl, (good.joining v t j).joinable));
       mutexes = sound;
       conditions = agreed;
-      counts = counts_put (standings s) t (Waits wait) good.counts many;
+      waits = waits_put (standings s) t (Waits wait) s.now good.waits here;
+      signals = good.signals;
     })
 
 -- a thread that was not ready and waited for no mutex and no condition becomes ready
@@ -217,7 +244,8 @@ good_without s t left good gone range ready nobody =
       conditions =
           conditions_on (put (standings s) t left.standing) s.mutexes _ s.conditions (λ c m e. stay_orphaned t (s.mutexes m))
           (conditions_apart (standings s) s.mutexes t left.standing s.conditions (λ c. ap (is_target (ConditionAt c)) is.0) (λ c. ap (is_target (ConditionAt c)) was) good.conditions);
-      counts = counts_put (standings s) t left.standing good.counts is.2;
+      waits = waits_put (standings s) t left.standing s.now good.waits (is.2 s.now);
+      signals = signals_put s.now s.alarm s.actions s.pending good.signals t (λ sig. 0) (λ sig h. refl);
     })
 
 -- nobody waits for the end of a thread that has ended
@@ -238,7 +266,8 @@ good_freed_number s t good gone =
           mutexes_stay (standings s) t Absent s.mutexes good.mutexes (λ m. ap (is_target (MutexAt m)) (sym was.0))
           (λ m h. sym gone ∙ ((good.mutexes m).owned t h).live);
       conditions = conditions_apart (standings s) s.mutexes t Absent s.conditions (λ c. refl) (λ c. ap (is_target (ConditionAt c)) was.0) good.conditions;
-      counts = counts_put (standings s) t Absent good.counts once;
+      waits = waits_put (standings s) t Absent s.now good.waits (absent_wait s.now);
+      signals = good.signals;
     })
 
 -- a ready thread waits for the end of another that nobody joins
@@ -255,7 +284,8 @@ good_join s t u good ready live joinable nobody =
           (joining_new (standings s) (detachments s) t good.joining u (ready_live (standings s t) ready).1 live joinable nobody);
       mutexes = mutexes_stay (standings s) t st s.mutexes good.mutexes (λ m. sym (ready_wants m (standings s t) ready)) (λ m h. refl);
       conditions = conditions_apart (standings s) s.mutexes t st s.conditions (λ c. refl) (λ c. ready_waits_on c (standings s t) ready) good.conditions;
-      counts = counts_put (standings s) t st good.counts once;
+      waits = waits_put (standings s) t st s.now good.waits (steady s.now st once refl refl);
+      signals = good.signals;
     })
 
 -- a thread that nobody joins is detached
@@ -266,7 +296,7 @@ good_detached s u good nobody =
     (subst (AreJoining (standings s)) (sym (map_put (λ (x : Thread). x.detached) s.threads u loose))
     (subst (λ f. AreJoining f (put (detachments s) u true)) (put_got (standings s) u)
     (joining_put (standings s) (detachments s) u good.joining (standings s u) true (λ v h. h) (λ v j. absurd (nobody v j)))))
-    good.mutexes good.conditions
+    good.mutexes good.conditions good.waits good.signals
 
 -- a ready thread goes to the end of the list
 pub good_to_end : (s : State) (t : ℕ) → IsGood s → is_ready (standings s t) ≡ true → IsGood (to_end s t)
@@ -279,7 +309,7 @@ good_to_end s t good h =
       order = IsOrder-push (without t s.ready) t (IsOrder-filter _ s.ready good.ready.order) range.0 range.1 (not_in-without t s.ready);
       listed = λ u. is_in-to_end t u s.ready (good.ready.listed t ∙ h) ∙ good_here.ready.listed u;
     })
-    good_here.joining good_here.mutexes good_here.conditions
+    good_here.joining good_here.mutexes good_here.conditions good_here.waits good_here.signals
 
 -- where no thread is found that joins, none joins
 pub nobody_joins : (s : State) (u : ℕ) → IsGood s → has_joiner s u ≡ false → (v : ℕ) → joins u (standings s v) ≡ true → ⊥
@@ -291,3 +321,10 @@ pub no_joiner : (s : State) (u : ℕ) → IsGood s → joiner s u ≡ None → (
 no_joiner s u good none v h =
     let range = good.within v (waiting (EndOf u) (standings s v) h).1 in
     never (joins u (standings s v)) h (find_none (λ w. joins u (standings s w)) tids v none (in_tids v range.0 range.1))
+
+-- the chosen thread is ready
+pub chosen_ready : (s : State) (t : ℕ) → IsGood s → chosen s ≡ Some t → (is_ready (standings s t) ≡ true) × IsTid t
+unfolding chosen
+chosen_ready s t good e =
+    let here = first_in (eff s) s.ready t e in
+    (sym (good.ready.listed t) ∙ here, in_order_within s.ready t good.ready.order here)

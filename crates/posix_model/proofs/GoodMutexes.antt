@@ -17,7 +17,7 @@ use Rattle.posix_model.specs.Replies.{values}
 use Rattle.posix_model.specs.MutexCalls.{new_mutex, cannot_init, mutex_init, destroy_of, mutex_destroy, is_checked, is_counted, is_full, is_open_to, take, queue, lock_of, lock, trylock_of, trylock, released, unlock_of, unlock, mutex_calls}
 use Rattle.posix_model.specs.Good.{standings, IsGood, IsSoundMutex}
 use Rattle.posix_model.specs.declared.Wait.TheVariants.{Mutex as OfMutex}
-use Rattle.posix_model.proofs.StandingLemmas.{is_none, ready_live, ready_wants, ready_waits_on, once}
+use Rattle.posix_model.proofs.StandingLemmas.{is_none, ready_live, ready_wants, ready_waits_on, once, steady}
 use Rattle.posix_model.proofs.MutexLemmas.{is_none_held, mutex_idle, nobody_wants}
 use Rattle.posix_model.proofs.ConditionLemmas.{stay_put, conditions_apart, used_other}
 use Rattle.posix_model.proofs.GoodLemmas.{good_reply, ready_without}
@@ -72,7 +72,7 @@ module _ (s : State) (t m : ℕ) (mutex : Mutex) (good : IsGood s) (ready : is_r
       good_queued s m mutex good there t (OfMutex m) (without t s.ready) s.conditions taken (good.within t (ready_live (s.threads t).standing ready).0)
       (ready_without (standings s) t st s.ready refl good.ready) refl (λ k. ready_wants k (s.threads t).standing ready)
       (conditions_apart (standings s) s.mutexes t st s.conditions (λ c. refl) (λ c. ready_waits_on c (s.threads t).standing ready) good.conditions)
-      once
+      (steady s.now st once refl refl)
 
   good_trylock_of : GoodCall (trylock_of s t m (Some mutex))
   good_trylock_of =

@@ -6,8 +6,8 @@ use Rattle.thread_base.specs.Priority.{tids}
 use Rattle.thread_base.specs.declared.Errno.TheVariants.{ESRCH, EBADF, EAGAIN, EFAULT, EINVAL, EDEADLK, ENOSYS}
 use Rattle.thread_base.proofs.SearchLemmas.{tids_in, find_passes, find_member}
 use Rattle.rv_exec.specs.Window.{fits}
-use Rattle.posix_model.specs.State.{State, Standing, Absent, Ended, MutexAt, ConditionAt, target, is_target, is_absent, is_ready, is_live, joins, no_thread}
-use Rattle.posix_model.specs.Changes.{begun, append, to_end, set_thread, await}
+use Rattle.posix_model.specs.State.{State, Standing, Phase, Normal, Leaving, Absent, Ended, MutexAt, ConditionAt, target, is_target, is_absent, is_ready, is_live, joins, no_thread}
+use Rattle.posix_model.specs.Changes.{begun, append, to_end, set_thread, await, exiting}
 use Rattle.posix_model.specs.Threads.{has_joiner, free_number, exists, new_thread}
 use Rattle.posix_model.specs.Calls.{most_written, written, write, exit, cannot_start, created, create, exit_thread, is_taken, join_by, join, detached_by, detach, self_number, yield, signal_calls, thread_calls, sync_calls, call_row}
 use Rattle.posix_model.specs.ConditionCalls.{condition_calls}
@@ -28,7 +28,7 @@ good_write s t c good ready =
     (λ may. good_reply s t 0 (min c.a2 most_written) good)
 
 good_exit : IsGoodRow exit
-good_exit s t c good ready = good_alike s (exit s t c).outcome.state refl good good.ready good.joining good.mutexes good.conditions
+good_exit s t c good ready = good_alike s (exit s t c).outcome.state refl good good.ready good.joining good.mutexes good.conditions good.waits good.signals
 
 good_created : (s : State) (t : ℕ) (c : Arguments) (o : Option ℕ) → IsGood s → free_number s ≡ o → GoodCall (created s t c o)
 good_created s t c None good e = good_refused s t EAGAIN good
@@ -43,8 +43,13 @@ good_create : IsGoodRow create
 good_create s t c good ready =
     good_refusing s t ((cannot_start c, EINVAL) ∷ []) (created s t c (free_number s)) good (λ may. good_created s t c (free_number s) good refl)
 
+-- who exits does what it did, and is detached where it was
+good_exiting : (s : State) (t value : ℕ) (phase : Phase) → IsGood s → IsGood (set_thread s t (exiting phase (s.threads t) value))
+good_exiting s t value Normal good = good_set s t _ refl refl good
+good_exiting s t value (Leaving old rounds next) good = good_set s t _ refl refl good
+
 good_exit_thread : IsGoodRow exit_thread
-good_exit_thread s t c good ready = good_set s t _ refl refl good
+good_exit_thread s t c good ready = good_exiting s t c.a0 (s.threads t).phase good
 
 -- the caller waits for the end of a thread that nobody joins
 good_waits_for : (s : State) (t u : ℕ) → IsGood s → is_ready (standings s t) ≡ true → is_live (standings s u) ≡ true → is_taken s u ≡ false → IsGood (await s t (Join u))

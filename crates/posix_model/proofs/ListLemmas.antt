@@ -1,11 +1,16 @@
 -- Maps and lists of threads after the change of one thread.
-use Rattle.std.proofs.Common.{◌≡◌, ◌≢◌, ◌∙◌, sym, subst, inl, inr, ℕ, Bool, true, false, List}
-use Rattle.std.proofs.lemmas.Bool.{cases_eq}
+use Rattle.std.proofs.Common.{◌≡◌, ◌≢◌, ◌∙◌, ap, sym, refl, subst, inl, inr, ℕ, zero, suc, ◌+◌, ◌≤◌, Bool, true, false, ◌&&◌, eqb, List, [], ◌∷◌, arith}
+use Rattle.std.specs.Prelude.{filter}
+use Rattle.std.specs.List.{range_with_len}
+use Rattle.std.proofs.Math.Bool.{and-false}
+use Rattle.std.proofs.lemmas.Bool.{cases_eq, cases_Bool, eqb-true, false_from_ne_true}
 use Rattle.thread_base.specs.Maps.{put}
 use Rattle.thread_base.specs.Objects.{appended}
-use Rattle.thread_base.specs.Orders.{is_in, without}
+use Rattle.thread_base.specs.Orders.{is_in, without, IsOrder}
+use Rattle.thread_base.specs.Priority.{tids}
 use Rattle.thread_base.proofs.MapLemmas.{put_same, put_other, kept}
 use Rattle.thread_base.proofs.OrderLemmas.{not_in-without, is_in-without, is_in-push, is_in-pushed}
+use Rattle.thread_base.proofs.SearchLemmas.{range_in}
 
 -- what holds of each entry of a map holds after a change of one
 pub each_put : {A : Type 0} (P : ℕ → A → Type 0) (f : ℕ → A) (t : ℕ) (x : A) → P t x → ((u : ℕ) → u ≢ t → P u (f u)) → (u : ℕ) → P u (put f t x u)
@@ -25,3 +30,35 @@ module _ {A : Type 0} (test : A → Bool) (standing : ℕ → A) (t : ℕ) (st :
 
   pub listed_without : test st ≡ false → (u : ℕ) → is_in u (without t ts) ≡ test (put standing t st u)
   listed_without fails = each_put (λ u x. is_in u (without t ts) ≡ test x) standing t st (not_in-without t ts ∙ sym fails) (λ u ne. is_in-without t u ts ne ∙ listed u)
+
+-- a filtered list has who passes and was there
+pub is_in_filter : (p : ℕ → Bool) (u : ℕ) (ts : List ℕ) → is_in u (filter p ts) ≡ p u && is_in u ts
+is_in_filter p u [] = sym (and-false (p u))
+is_in_filter p u (t ∷ ts) =
+    elim (cases_Bool (p t)) [
+      | inl passes ↦
+          rw passes
+          (elim (cases_Bool (eqb u t)) [
+            | inl same ↦ (let own : p u ≡ true = ap p (eqb-true u t same) ∙ passes in rw same (rw own refl))
+            | inr other ↦ (let rest = is_in_filter p u ts in rw other rest)
+          ])
+      | inr fails ↦
+          rw fails
+          (elim (cases_Bool (eqb u t)) [
+            | inl same ↦
+                (let own : p u ≡ false = ap p (eqb-true u t same) ∙ fails in
+                is_in_filter p u ts ∙ ap (λ b. b && is_in u ts) own ∙ sym (ap (λ b. b && is_in u (t ∷ ts)) own))
+            | inr other ↦ (let rest = is_in_filter p u ts in rw other rest)
+          ])
+    ]
+
+-- the numbers of threads are in order
+IsOrder-range : (first count : ℕ) → 1 ≤ first → first + count ≤ 65 → IsOrder (range_with_len first count)
+IsOrder-range first zero low high = tt
+IsOrder-range first (suc count) low high =
+    let apart = false_from_ne_true _ (λ h. let r = range_in (first + 1) count first h in omega (arith, r.0)) in
+    (low, omega (arith, high), apart, IsOrder-range (first + 1) count (omega arith) (omega (arith, high)))
+
+pub IsOrder-tids : IsOrder tids
+unfolding tids
+IsOrder-tids = IsOrder-range 1 64 (omega arith) (omega arith)

@@ -1,10 +1,11 @@
 -- What a thread's standing says of what it waits for.
-use Rattle.std.proofs.Common.{◌≡◌, ◌∙◌, ap, sym, refl, ℕ, Bool, true, false, arith, Option, Some, None}
+use Rattle.std.proofs.Common.{◌≡◌, ◌∙◌, ap, sym, refl, ℕ, ◌<◌, Bool, true, false, arith, Option, Some, None}
 use Rattle.std.specs.Prelude.{is_some}
+use Rattle.std.specs.Option.{ForSome}
 use Rattle.std.proofs.lemmas.Bool.{eqb-true}
 pub use Rattle.thread_base.proofs.MapLemmas.{at_same, at_other, kept}
-use Rattle.posix_model.specs.State.{Standing, Absent, Ready, Waits, Ended, Target, Nothing, EndOf, MutexAt, ConditionAt, target, is_target, is_absent, is_ready, is_live, joins, wants, waits_on, mutex_with, count_due}
-use Rattle.posix_model.specs.Good.{IsCount}
+use Rattle.posix_model.specs.State.{Standing, Absent, Ready, Waits, Ended, Target, Nothing, EndOf, MutexAt, ConditionAt, ASignal, ATime, Input, target, wait_of, is_target, is_absent, is_ready, is_live, joins, wants, waits_on, mutex_with, count_due, deadline_by, set_at}
+use Rattle.posix_model.specs.Good.{IsCount, IsSoundWait}
 use Rattle.posix_model.specs.declared.Wait.TheVariants.{Cond}
 
 pub never : (b : Bool) → b ≡ true → b ≡ false → ⊥
@@ -41,11 +42,23 @@ for_nothing Nothing = refl
 for_nothing (EndOf t) = refl
 for_nothing (MutexAt m) = refl
 for_nothing (ConditionAt c) = refl
+for_nothing (ASignal set) = refl
+for_nothing (ATime until) = refl
+for_nothing (Input buffer size) = refl
 
 -- who waits for something is there, and neither is ready nor has ended
 pub waiting : (a : Target) (st : Standing) → is_target a (target st) ≡ true → (is_ready st ≡ false) × (is_absent st ≡ false) × (is_live st ≡ true)
 waiting a (Waits wait) h = (refl, refl, refl)
 waiting a st h = absurd (never (is_target a Nothing) h (for_nothing a))
+
+-- it is a target, and not nothing
+abbrev pub is_something : Target → Bool
+is_something Nothing = false
+is_something a = true
+
+pub aiming : (st : Standing) → is_something (target st) ≡ true → (is_ready st ≡ false) × (is_absent st ≡ false) × (is_live st ≡ true)
+aiming (Waits wait) h = (refl, refl, refl)
+aiming st h = absurd (never false h refl)
 
 pub joins_waits : (u : ℕ) (st : Standing) → joins u st ≡ true → (is_ready st ≡ false) × (is_absent st ≡ false) × (is_live st ≡ true)
 joins_waits u st h = waiting (EndOf u) st h
@@ -68,8 +81,26 @@ waits_with c st h = absurd (never false h refl)
 pub once : IsCount 1
 once = (omega arith, omega arith)
 
+pub for_none : (o : Option ℕ) (P : ℕ → Type 0) → o ≡ None → ForSome o P
+for_none o P none x e = absurd (let f : None ≡ Some x = sym none ∙ e in cc)
+
+-- what a thread waits for without a time and without a set of signals is sound, where the count is
+pub steady : (now : ℕ) (st : Standing) → IsCount (count_due st) → deadline_by (wait_of st) ≡ None → set_at (target st) ≡ None → IsSoundWait now st
+steady now st many timeless setless = record {
+  count = many;
+  later = for_none (deadline_by (wait_of st)) (λ until. now < until) timeless;
+  some = for_none (set_at (target st)) (λ set. 0 < set) setless;
+}
+
+-- who can run waits for nothing, and so does who is not there
+pub ready_wait : (now : ℕ) → IsSoundWait now Ready
+ready_wait now = steady now Ready once refl refl
+
+pub absent_wait : (now : ℕ) → IsSoundWait now Absent
+absent_wait now = steady now Absent once refl refl
+
 -- who is not there any more waits for nothing and cannot run
-pub dead : (st : Standing) → is_live st ≡ false → (target st ≡ Nothing) × (is_ready st ≡ false) × IsCount (count_due st)
-dead Absent h = (refl, refl, once)
-dead (Ended value) h = (refl, refl, once)
+pub dead : (st : Standing) → is_live st ≡ false → (target st ≡ Nothing) × (is_ready st ≡ false) × ((now : ℕ) → IsSoundWait now st)
+dead Absent h = (refl, refl, absent_wait)
+dead (Ended value) h = (refl, refl, λ now. steady now (Ended value) once refl refl)
 dead st h = absurd (never true refl h)

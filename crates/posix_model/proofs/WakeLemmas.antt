@@ -12,7 +12,7 @@ use Rattle.thread_base.proofs.MapLemmas.{put_other, put_got}
 use Rattle.thread_base.proofs.OrderLemmas.{without_absent}
 use Rattle.thread_base.proofs.PriorityLemmas.{first_in, first_some}
 use Rattle.thread_base.proofs.SearchLemmas.{find_passes}
-use Rattle.posix_model.specs.State.{State, Thread, Mutex, Condition, Standing, Waits, wait_of, waits_on}
+use Rattle.posix_model.specs.State.{State, Thread, Mutex, Condition, Standing, Waits, target, wait_of, waits_on, deadline_by, is_at_condition}
 use Rattle.posix_model.specs.Scheduling.{eff}
 use Rattle.posix_model.specs.Changes.{Outcome, begun}
 use Rattle.posix_model.specs.Mutexes.{give, requeue, retake_of}
@@ -22,6 +22,7 @@ use Rattle.posix_model.specs.Good.{standings, IsGood}
 use Rattle.posix_model.specs.Laws.{BestComesFirst, EveryoneIsWoken}
 use Rattle.posix_model.specs.declared.RetakeReply.{RetakeReply}
 use Rattle.posix_model.specs.declared.RetakeReply.TheVariants.{Answer}
+use Rattle.posix_model.specs.declared.Wait.{Wait}
 use Rattle.posix_model.specs.declared.Wait.TheVariants.{Cond}
 use Rattle.posix_model.proofs.StandingLemmas.{never, kept}
 use Rattle.posix_model.proofs.ListLemmas.{each_put}
@@ -104,34 +105,75 @@ IsOrder-in_order key [] order = tt
 IsOrder-in_order key (t ∷ ts) order =
     IsOrder-insert key t (in_order key ts) (IsOrder-in_order key ts order.3) order.0 order.1 (in_order_is_in key t ts ∙ order.2)
 
--- a wake changes one thread, who then waits for no condition
-abbrev Woken : Outcome → ℕ → (ℕ → Thread) → Type 0
-Woken g t threads = (x : Thread) × (threads ≡ put g.state.threads t x) × (IsGood g.state → (d : ℕ) → waits_on d x.standing ≡ false)
+-- a state with the threads, the ready list, the mutexes and the conditions of another
+abbrev pub with_threads_of : State → State → State
+with_threads_of r s = record r { threads = s.threads; ready = s.ready; mutexes = s.mutexes; conditions = s.conditions }
+
+retaken_alike : (g : Outcome) (r : State) (t c m count : ℕ) (reply : RetakeReply) (o : Option Mutex)
+    → (retake_of (leave (record g { state = with_threads_of r g.state }) c t) m o t count reply).state ≡ with_threads_of r (retake_of (leave g c t) m o t count reply).state
+retaken_alike g r t c m count reply None = refl
+retaken_alike g r t c m count reply (Some mutex) = by (is_free mutex.holder)
+  where
+    there : Outcome
+    there = leave (record g { state = with_threads_of r g.state }) c t
+
+    by : (b : Bool) → (if b then give there m mutex t count reply else requeue there m mutex t count reply).state
+        ≡ with_threads_of r (if b then give (leave g c t) m mutex t count reply else requeue (leave g c t) m mutex t count reply).state
+    by true = refl
+    by false = refl
+
+woken_alike : (g : Outcome) (r : State) (t : ℕ) (reply : RetakeReply) (wait : Option Wait)
+    → (wake_from (record g { state = with_threads_of r g.state }) t reply wait).state ≡ with_threads_of r (wake_from g t reply wait).state
+woken_alike g r t reply (Some (Cond c m deadline count)) = retaken_alike g r t c m count reply (g.state.mutexes m)
+woken_alike g r t reply wait = refl
+
+-- a wake reads and changes threads, ready list, mutexes and conditions alone
+pub wake_alike : (g : Outcome) (r : State) (t : ℕ) (reply : RetakeReply)
+    → (wake (record g { state = with_threads_of r g.state }) t reply).state ≡ with_threads_of r (wake g t reply).state
+wake_alike g r t reply = woken_alike g r t reply (wait_of (standings g.state t))
+
+pub wake_leaves : (g : Outcome) (t : ℕ) (reply : RetakeReply) → (wake g t reply).state ≡ with_threads_of g.state (wake g t reply).state
+wake_leaves g t reply = wake_alike g g.state t reply
+
+-- a wake changes one thread, who then waits for no condition, and without a time where it waited for one
+abbrev pub Woken : Outcome → ℕ → (ℕ → Thread) → Type 0
+Woken g t threads =
+    (x : Thread) × (threads ≡ put g.state.threads t x) × (IsGood g.state → (d : ℕ) → waits_on d x.standing ≡ false)
+    × (IsGood g.state → is_at_condition (target (standings g.state t)) ≡ true → deadline_by (wait_of x.standing) ≡ None)
 
 retaken : (g : Outcome) (t c m count : ℕ) (deadline : Option ℕ) (reply : RetakeReply) (o : Option Mutex) → standings g.state t ≡ Waits (Cond c m deadline count)
     → g.state.mutexes m ≡ o → Woken g t (retake_of (leave g c t) m o t count reply).state.threads
 retaken g t c m count deadline reply None e none =
-    (g.state.threads t, sym (put_got g.state.threads t), λ good d. absurd (never false (sym (ap is_some none) ∙ mutex_there g.state t c m count deadline good e) refl))
+    let there = λ (good : IsGood g.state). never false (sym (ap is_some none) ∙ mutex_there g.state t c m count deadline good e) refl in
+    (g.state.threads t, sym (put_got g.state.threads t), λ good d. absurd (there good), λ good h. absurd (there good))
 retaken g t c m count deadline reply (Some mutex) e there = by (is_free mutex.holder)
   where
     by : (b : Bool) → Woken g t (if b then give (leave g c t) m mutex t count reply else requeue (leave g c t) m mutex t count reply).state.threads
-    by true = (_, refl, λ good d. refl)
-    by false = (_, refl, λ good d. refl)
+    by true = (_, refl, λ good d. refl, λ good h. refl)
+    by false = (_, refl, λ good d. refl, λ good h. refl)
 
 woken_from : (g : Outcome) (t : ℕ) (reply : RetakeReply) (st : Standing) → standings g.state t ≡ st → Woken g t (wake_from g t reply (wait_of st)).state.threads
 woken_from g t reply (Waits (Cond c m deadline count)) e = retaken g t c m count deadline reply (g.state.mutexes m) e refl
-woken_from g t reply st e = (g.state.threads t, sym (put_got g.state.threads t), λ good d. ap (waits_on d) e)
+woken_from g t reply st e = (
+  g.state.threads t,
+  sym (put_got g.state.threads t),
+  λ good d. ap (waits_on d) e,
+  λ good h. absurd (never (is_at_condition (target (standings g.state t))) h (ap (λ x. is_at_condition (target x)) e)),
+)
+
+pub wake_changes : (g : Outcome) (t : ℕ) (reply : RetakeReply) → Woken g t (wake g t reply).state.threads
+wake_changes g t reply = woken_from g t reply (standings g.state t) refl
 
 pub wake_elsewhere : (g : Outcome) (t u : ℕ) (reply : RetakeReply) → u ≢ t → (wake g t reply).state.threads u ≡ g.state.threads u
 wake_elsewhere g t u reply ne =
-    let woken = woken_from g t reply (standings g.state t) refl in
+    let woken = wake_changes g t reply in
     ap (λ (f : ℕ → Thread). f u) woken.1 ∙ put_other g.state.threads t woken.0 u ne
 
 -- who waits for a condition after a wake is another thread, and waited before
 waits_after : (g : Outcome) (t u d : ℕ) (reply : RetakeReply) → IsGood g.state → waits_on d (standings (wake g t reply).state u) ≡ true
     → (u ≢ t) × (waits_on d (standings g.state u) ≡ true)
 waits_after g t u d reply good h =
-    let woken = woken_from g t reply (standings g.state t) refl in
+    let woken = wake_changes g t reply in
     each_put (λ v (x : Thread). waits_on d x.standing ≡ true → (v ≢ t) × (waits_on d (standings g.state v) ≡ true)) g.state.threads t woken.0
     (λ k. absurd (never (waits_on d woken.0.standing) k (woken.2 good d))) (λ v ne k. (ne, k)) u
     (ap (λ (f : ℕ → Thread). waits_on d (f u).standing) (sym woken.1) ∙ h)

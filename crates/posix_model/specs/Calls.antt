@@ -5,7 +5,7 @@ use Rattle.rv_exec.specs.Window.{fits}
 use Rattle.posix_model.specs.State.{State, Standing, Absent, Ready, Waits, Ended, no_thread}
 use Rattle.posix_model.specs.Changes.{Outcome, begun, set_thread, append, to_end}
 use Rattle.posix_model.specs.Threads.{exists, free_number, has_joiner, are_attributes, new_thread}
-use Rattle.posix_model.specs.Leaving.{start_exit}
+use Rattle.posix_model.specs.Leaving.{exit_with}
 pub use Rattle.posix_model.specs.Replies.{Called, Row, Entry, row_of, arguments, call_number, values, refused, refusing, blocked}
 use Rattle.posix_model.specs.MutexCalls.{mutex_calls}
 use Rattle.posix_model.specs.ConditionCalls.{condition_calls}
@@ -55,7 +55,7 @@ create s t c = refusing s t ((cannot_start c, EINVAL) ∷ []) (created s t c (fr
 
 -- 257: exit of the calling thread with a value (POSIX.1 pthread_exit)
 abbrev pub exit_thread : State → ℕ → Arguments → Called
-exit_thread s t c = record { outcome = begun (start_exit s t c.a0); reply = Exits }
+exit_thread s t c = record { outcome = begun (exit_with s t c.a0); reply = Exits }
 
 -- whether nobody may join or detach a thread any more
 abbrev pub is_taken : State → ℕ → Bool

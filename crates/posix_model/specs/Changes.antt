@@ -1,8 +1,8 @@
 -- The small changes of which moves are made.
-use Rattle.std.specs.Prelude.{ℕ, ◌+◌, ◌-◌, ◌^◌, ◌%◌, ◌==◌, if◌then◌else◌, [], ◌∷◌, ◌++◌, nat_lt, slice_index, slice_set, bit_or}
+use Rattle.std.specs.Prelude.{ℕ, ◌+◌, ◌-◌, ◌^◌, ◌%◌, ◌==◌, if◌then◌else◌, false, [], ◌∷◌, ◌++◌, nat_lt, slice_index, slice_set, bit_or}
 use Rattle.thread_base.specs.Maps.{put}
 use Rattle.thread_base.specs.Orders.{without}
-use Rattle.posix_model.specs.State.{State, Thread, Registers, Leaving, Ready, Waits}
+use Rattle.posix_model.specs.State.{State, Thread, Registers, Phase, Normal, Leaving, Cancellation, Ready, Waits}
 use Rattle.posix_model.specs.declared.RetakeReply.{RetakeReply}
 use Rattle.posix_model.specs.declared.RetakeReply.TheVariants.{Answer, Cancel}
 use Rattle.posix_model.specs.declared.Wait.{Wait}
@@ -70,9 +70,36 @@ await s t wait = record s {
 abbrev pub cleanup_return : ℕ
 cleanup_return = 0xFFFFFFE0
 
--- a thread that starts its exit with a value, or takes a new value for it (POSIX.1 pthread_exit)
+-- in its exit a thread is not cancelled (POSIX.1 pthread_exit)
+abbrev pub no_cancellation : Cancellation
+no_cancellation = record { enabled = false; asynchronous = false; pending = false }
+
+-- a thread that starts its exit with a value: its frames are dropped (POSIX.1 pthread_exit)
 abbrev pub in_exit : Thread → ℕ → Thread
-in_exit thread value = record thread { phase = Leaving value; registers = record thread.registers { pc = cleanup_return } }
+in_exit thread value = record thread {
+  frames = [];
+  cancellation = no_cancellation;
+  phase = Leaving value 0 0;
+  registers = record thread.registers { pc = cleanup_return };
+}
+
+-- a thread that exits with a value: outside its exit it starts it, and within it goes on with another value, its frames
+-- dropped (POSIX.1 pthread_exit)
+abbrev pub exiting : Phase → Thread → ℕ → Thread
+exiting Normal thread value = in_exit thread value
+exiting (Leaving old rounds next) thread value =
+    record thread { frames = []; phase = Leaving value rounds next; registers = record thread.registers { pc = cleanup_return } }
+
+-- a stack pointer without its low four bits (System V ABI)
+abbrev pub aligned : ℕ → ℕ
+aligned sp = sp - sp % 16
+
+-- the registers at a routine with an argument, which returns to an address (System V ABI)
+abbrev pub called_at : Registers → ℕ → ℕ → ℕ → Registers
+called_at r routine argument back = record {
+  pc = routine;
+  x = slice_set (slice_set (slice_set r.x 10 argument) 1 back) 2 (aligned (slice_index r.x 2));
+}
 
 -- it is told that a waiting thread was answered
 abbrev pub with_answer : Report → ℕ → ℕ → ℕ → Report

@@ -139,5 +139,5 @@ CancelledWaits =
     let handed : Called = on unlock queued 1 0 in
     ((queued.threads 4).standing ≡ Waits (Reacquire 0 Cancel 1)) × ((queued.threads 4).registers.pc ≡ 65620)
     × (mutex_after handed 0 ≡ Some (mutex_with Normal (Held 4 1) (6 ∷ []))) × (standing_after handed 4 ≡ Ready)
-    × ((handed.outcome.state.threads 4).phase ≡ Leaving 0xFFFFFFFF) × ((handed.outcome.state.threads 4).registers.pc ≡ 0xFFFFFFE0)
+    × ((handed.outcome.state.threads 4).phase ≡ Leaving 0xFFFFFFFF 0 0) × ((handed.outcome.state.threads 4).registers.pc ≡ 0xFFFFFFE0)
     × (handed.outcome.report.done ≡ 0)

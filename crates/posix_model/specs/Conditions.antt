@@ -37,6 +37,7 @@ wake_from g t reply (Some (Join u)) = g
 wake_from g t reply (Some (OfMutex m)) = g
 wake_from g t reply (Some (Cond c m deadline count)) = retake (leave g c t) m t count reply
 wake_from g t reply (Some (Reacquire m other count)) = g
+wake_from g t reply a = g
 
 -- a thread that waits for a condition waits for it no more (POSIX.1 pthread_cond_wait)
 abbrev pub wake : Outcome → ℕ → RetakeReply → Outcome

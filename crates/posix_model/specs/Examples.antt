@@ -1,16 +1,16 @@
 -- Small cases of the definitions, which the checker computes.
-use Rattle.std.specs.Prelude.{ℕ, ◌≡◌, true, List, [], ◌∷◌, ◌++◌, codes, replicate, slice_index_or, Option, Some, None}
+use Rattle.std.specs.Prelude.{ℕ, ◌≡◌, true, false, List, [], ◌∷◌, ◌++◌, codes, replicate, slice_index_or, Option, Some, None}
 use Rattle.thread_base.specs.Maps.{put}
 use Rattle.thread_base.specs.Priority.{effective, first_greatest}
 use Rattle.rv_exec.specs.declared.Special.TheVariants.{Handler, Cleanup, Start}
-use Rattle.posix_model.specs.State.{State, Thread, Standing, Absent, Ready, Waits, Ended, Normal, Leaving, no_thread, none_pending, no_mutexes, no_conditions}
+use Rattle.posix_model.specs.State.{State, Thread, Standing, Absent, Ready, Waits, Ended, no_thread, none_pending, no_mutexes, no_conditions, no_keys, default_actions}
 use Rattle.posix_model.specs.Scheduling.{chosen}
 use Rattle.posix_model.specs.Threads.{first_registers}
 use Rattle.posix_model.specs.Leaving.{end_of_thread}
 use Rattle.posix_model.specs.Calls.{Called, create, join, detach, yield, call_row}
 use Rattle.posix_model.specs.Instructions.{returned}
 use Rattle.posix_model.specs.Reports.{nothing_told}
-use Rattle.posix_model.specs.Changes.{with_answer}
+use Rattle.posix_model.specs.Changes.{set_thread, in_exit, with_answer}
 use Rattle.posix_model.specs.Lines.{lines, run_line, end_lines}
 use Rattle.posix_model.specs.declared.Arguments.{Arguments}
 use Rattle.posix_model.specs.declared.Ending.TheVariants.{Exit as ExitWith}
@@ -66,7 +66,13 @@ six_threads = record {
   ready = 1 ∷ 2 ∷ 5 ∷ 6 ∷ [];
   mutexes = no_mutexes;
   conditions = no_conditions;
+  keys = no_keys;
+  actions = default_actions;
   pending = none_pending;
+  now = 0;
+  alarm = None;
+  input = [];
+  is_input_over = false;
   memory = [];
   over = None;
 }
@@ -168,12 +174,16 @@ Unknown =
     × (reply_of (call_row six_threads 1 17 (with_arguments 0 0 0 0)) ≡ Values 38 0)
     × (reply_of (call_row six_threads 1 294 (with_arguments 0 0 0 0)) ≡ Values 38 0)
 
+-- thread 1 is in its exit
+abbrev pub in_its_exit : State
+in_its_exit = set_thread six_threads 1 (in_exit (thread_with Ready) 5)
+
 -- a special return that is not due faults
 abbrev pub NotDue : Type 0
 NotDue =
-    ((returned six_threads 1 Handler Normal).report.head ≡ Fault 11)
-    × ((returned six_threads 1 Cleanup Normal).report.head ≡ Fault 11)
-    × ((returned six_threads 1 Start (Leaving 5)).report.head ≡ Fault 11)
+    ((returned six_threads 1 Handler).report.head ≡ Fault 11)
+    × ((returned six_threads 1 Cleanup).report.head ≡ Fault 11)
+    × ((returned in_its_exit 1 Start).report.head ≡ Fault 11)
 
 -- the report of a call of a thread
 abbrev pub call_report : ℕ → ℕ → List ℕ → Reply → Report

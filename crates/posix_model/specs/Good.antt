@@ -1,11 +1,14 @@
 -- What holds of every state that is reached, facet by facet: each reads what the threads are doing and one part of the state.
 use Rattle.std.specs.Prelude.{◌≡◌, ◌≤◌, ◌<◌, ℕ, Bool, true, false, List, [], Option, Some, None, is_some}
+use Rattle.std.specs.Option.{ForSome}
+use Rattle.thread_base.specs.Actions.{ignores}
 use Rattle.thread_base.specs.Holders.{is_held_by, count_of, is_free}
 use Rattle.thread_base.specs.Numbers.{IsTid}
 use Rattle.thread_base.specs.Objects.{holder_in, waiters_in, cond_mutex, cond_waiters}
 use Rattle.thread_base.specs.Orders.{is_in, IsOrder}
+use Rattle.thread_base.specs.declared.action.Action.{Action}
 use Rattle.thread_base.specs.declared.mutex.Holder.{Holder}
-use Rattle.posix_model.specs.State.{State, Standing, Mutex, Condition, is_absent, is_ready, is_live, joins, wants, waits_on, mutex_with, count_due}
+use Rattle.posix_model.specs.State.{State, Standing, Mutex, Condition, is_absent, is_ready, is_live, target, wait_of, joins, wants, waits_on, mutex_with, count_due, deadline_by, set_at}
 use Rattle.posix_model.specs.Mutexes.{most_locks}
 
 -- what each thread is doing
@@ -73,15 +76,28 @@ AreSoundConditions standing mutexes conditions = (c : ℕ) → IsSoundCondition 
 abbrev pub IsCount : ℕ → Type 0
 IsCount count = (1 ≤ count) × (count ≤ most_locks)
 
--- who waits for a condition or to have its mutex back has it then as often as it may
-abbrev pub AreCounts : (ℕ → Standing) → Type 0
-AreCounts standing = (t : ℕ) → IsCount (count_due (standing t))
+-- what a thread waits for: it may have its mutex as often as is due then, its time is still to come, and there is a signal
+-- in its set (POSIX.1 pthread_cond_wait, sleep, sigwait)
+pub record IsSoundWait (now : ℕ) (standing : Standing) : Type 0 where
+  pub count : IsCount (count_due standing)
+  pub later : ForSome (deadline_by (wait_of standing)) (λ until. now < until)
+  pub some : ForSome (set_at (target standing)) (λ set. 0 < set)
 
--- a good state: the ready list, the numbers, the joins, the mutexes, the conditions and the counts are sound
+-- every wait is sound
+abbrev pub AreSoundWaits : ℕ → (ℕ → Standing) → Type 0
+AreSoundWaits now standing = (t : ℕ) → IsSoundWait now (standing t)
+
+-- the alarm is still to come, and no count of an ignored signal pends (POSIX.1 alarm, SIG_IGN)
+pub record AreSoundSignals (now : ℕ) (alarm : Option ℕ) (actions : ℕ → Action) (pending : ℕ → ℕ → ℕ) : Type 0 where
+  pub later : ForSome alarm (λ until. now < until)
+  pub heeded : (place sig : ℕ) → ignores (actions sig) sig ≡ true → pending place sig ≡ 0
+
+-- a good state: the ready list, the numbers, the joins, the mutexes, the conditions, the waits and the signals are sound
 pub record IsGood (s : State) : Type 0 where
   pub ready : IsReadyList (standings s) s.ready
   pub within : AreWithin (standings s)
   pub joining : AreJoining (standings s) (detachments s)
   pub mutexes : AreSoundMutexes (standings s) s.mutexes
   pub conditions : AreSoundConditions (standings s) s.mutexes s.conditions
-  pub counts : AreCounts (standings s)
+  pub waits : AreSoundWaits s.now (standings s)
+  pub signals : AreSoundSignals s.now s.alarm s.actions s.pending

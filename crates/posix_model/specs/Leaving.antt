@@ -2,17 +2,21 @@
 use Rattle.std.specs.Prelude.{ℕ, ◌+◌, true, if◌then◌else◌, List, map, Option, Some, None, slice_index}
 use Rattle.thread_base.specs.Maps.{put}
 use Rattle.thread_base.specs.Orders.{without}
-use Rattle.posix_model.specs.State.{State, Thread, Ended, no_thread}
-use Rattle.posix_model.specs.Changes.{Outcome, begun, set_thread, in_exit, answer}
+use Rattle.posix_model.specs.State.{State, Thread, Ended, Key, no_thread}
+use Rattle.posix_model.specs.Changes.{Outcome, begun, set_thread, in_exit, exiting, answer}
 use Rattle.posix_model.specs.Threads.{joiner, some_live}
 use Rattle.posix_model.specs.Mutexes.{orphaned}
 use Rattle.posix_model.specs.Lines.{sig_numbers}
 use Rattle.posix_model.specs.declared.Report.{Report}
 use Rattle.posix_model.specs.declared.Ending.TheVariants.{Exit}
 
--- a thread starts its exit with a value, or takes a new value for it; it stays ready
+-- a thread starts its exit with a value; it stays ready
 abbrev pub start_exit : State → ℕ → ℕ → State
 start_exit s t value = set_thread s t (in_exit (s.threads t) value)
+
+-- a thread exits, outside its exit or within it; it stays ready
+abbrev pub exit_with : State → ℕ → ℕ → State
+exit_with s t value = set_thread s t (exiting (s.threads t).phase (s.threads t) value)
 
 -- who waits for the end of a thread is answered its value
 abbrev pub answer_joiner : Outcome → ℕ → Option ℕ → Outcome
@@ -24,12 +28,19 @@ abbrev pub remains : Thread → ℕ → Option ℕ → Thread
 remains thread value None = if thread.detached then no_thread else record thread { standing = Ended value }
 remains thread value (Some u) = no_thread
 
--- a thread is gone from the ready list, the mutexes that it has are orphans, and what pends on it is dropped
+-- a key without the value of a thread
+abbrev pub cleared_in : ℕ → Option Key → Option Key
+cleared_in t None = None
+cleared_in t (Some key) = Some (record key { values = put key.values t 0 })
+
+-- a thread is gone from the ready list, the mutexes that it has are orphans, what pends on it is dropped, and it has
+-- no values of keys
 abbrev pub without_thread : State → ℕ → Thread → State
 without_thread s t left = record s {
   threads = put s.threads t left;
   ready = without t s.ready;
   mutexes = orphaned t s.mutexes;
+  keys = λ k. cleared_in t (s.keys k);
   pending = put s.pending t (λ sig. 0);
 }
 

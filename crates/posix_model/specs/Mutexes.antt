@@ -50,6 +50,7 @@ reply_by (Some (Join u)) = Answer 0
 reply_by (Some (OfMutex m)) = Answer 0
 reply_by (Some (Cond c m deadline count)) = Answer 0
 reply_by (Some (Reacquire m reply count)) = reply
+reply_by a = Answer 0
 
 -- the same by what a thread is doing
 abbrev pub reply_due : Standing → RetakeReply

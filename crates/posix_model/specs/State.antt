@@ -1,28 +1,48 @@
 -- What the machine consists of.
-use Rattle.std.specs.Prelude.{ℕ, ◌==◌, Bool, true, false, List, replicate, Option, Some, None}
+use Rattle.std.specs.Prelude.{ℕ, Bool, true, false, List, [], replicate, Option, None}
 use Rattle.thread_base.specs.declared.Policy.{Policy}
 use Rattle.thread_base.specs.declared.Policy.TheVariants.{Other}
 pub use Rattle.thread_base.specs.Objects.{Mutex, Condition}
+pub use Rattle.posix_model.specs.Standings.{Standing, Absent, Ready, Waits, Ended, is_absent, is_ready, is_live, aim, target, is_target, joins, wants, waits_on, wait_of, mutex_beside, count_by, mutex_with, count_due, set_at, deadline_by, takes_back, is_at_condition, is_reading, Target, ASignal, ATime, Input, Nothing, EndOf, MutexAt, ConditionAt}
 use Rattle.posix_model.specs.declared.Ending.{Ending}
-use Rattle.posix_model.specs.declared.Wait.{Wait}
-use Rattle.posix_model.specs.declared.Wait.TheVariants.{Join, Mutex as OfMutex, Cond, Reacquire}
+use Rattle.thread_base.specs.declared.action.Action.{Action}
+use Rattle.thread_base.specs.declared.action.Action.TheVariants.{Default}
+use Rattle.thread_base.specs.declared.frame.Cleanup.{Cleanup}
+use Rattle.thread_base.specs.declared.frame.FrameKind.{FrameKind}
+use Rattle.thread_base.specs.declared.frame.FrameKind.TheVariants.{Handler as OfHandler, Cleanup as OfCleanup}
 
 -- the program counter, and x0 to x31 (RISC-V)
 pub record Registers : Type 0 where
   pub pc : ℕ
   pub x : List ℕ
 
--- whether a thread is in its exit, and with which value (POSIX.1 pthread_exit)
+-- whether a thread is in its exit: with which value, how many rounds of destructors have ended, and which key is looked
+-- at next (POSIX.1 pthread_exit, pthread_key_create)
 pub data Phase : Type 0 where
   Normal : Phase
-  Leaving : (value : ℕ) → Phase
+  Leaving : (value rounds next : ℕ) → Phase
 
--- what a thread is doing; at a number that no thread has, none is there (POSIX.1 thread states)
-pub data Standing : Type 0 where
-  Absent : Standing
-  Ready : Standing
-  Waits : (wait : Wait) → Standing
-  Ended : (value : ℕ) → Standing  -- its value is still to be collected
+-- it is a handler's
+abbrev pub is_of_handler : FrameKind → Bool
+is_of_handler OfHandler = true
+is_of_handler OfCleanup = false
+
+-- what a thread goes back to where a handler or a cleanup routine returns
+pub record Frame : Type 0 where
+  pub registers : Registers
+  pub mask : ℕ
+  pub kind : FrameKind
+
+-- what a thread does where it is cancelled, and whether it was (POSIX.1 pthread_setcancelstate, pthread_cancel)
+pub record Cancellation : Type 0 where
+  pub enabled : Bool
+  pub asynchronous : Bool
+  pub pending : Bool
+
+-- a key of values of threads (POSIX.1 pthread_key_create)
+pub record Key : Type 0 where
+  pub destructor : ℕ  -- 0 where it has none
+  pub values : ℕ → ℕ  -- by thread
 
 -- a thread (POSIX.1 threads)
 pub record Thread : Type 0 where
@@ -31,6 +51,10 @@ pub record Thread : Type 0 where
   pub policy : Policy
   pub used : ℕ  -- the ticks used of its turn
   pub detached : Bool
+  pub mask : ℕ  -- the signals that it blocks
+  pub frames : List Frame  -- the last first
+  pub cleanups : List Cleanup  -- the last first
+  pub cancellation : Cancellation
   pub phase : Phase
   pub standing : Standing
 
@@ -40,9 +64,19 @@ pub record State : Type 0 where
   pub ready : List ℕ  -- the ready list
   pub mutexes : ℕ → Option Mutex  -- by number
   pub conditions : ℕ → Option Condition  -- by number
-  pub pending : ℕ → ℕ → ℕ  -- of a thread, of a signal: how many pend
+  pub keys : ℕ → Option Key  -- by number
+  pub actions : ℕ → Action  -- by signal
+  pub pending : ℕ → ℕ → ℕ  -- of a thread, or of the process under the number 0, and of a signal: how many pend
+  pub now : ℕ  -- the ticks that have come
+  pub alarm : Option ℕ  -- when it goes off
+  pub input : List ℕ  -- the bytes that are not read yet
+  pub is_input_over : Bool
   pub memory : List ℕ  -- the bytes of the window
   pub over : Option Ending
+
+-- a new thread's: enabled, deferred, not cancelled
+abbrev pub first_cancellation : Cancellation
+first_cancellation = record { enabled = true; asynchronous = false; pending = false }
 
 -- a number that no thread has
 abbrev pub no_thread : Thread
@@ -52,6 +86,10 @@ no_thread = record {
   policy = Other;
   used = 0;
   detached = false;
+  mask = 0;
+  frames = [];
+  cleanups = [];
+  cancellation = first_cancellation;
   phase = Normal;
   standing = Absent;
 }
@@ -68,94 +106,10 @@ no_mutexes m = None
 abbrev pub no_conditions : ℕ → Option Condition
 no_conditions c = None
 
--- there is no thread
-abbrev pub is_absent : Standing → Bool
-is_absent Absent = true
-is_absent Ready = false
-is_absent (Waits wait) = false
-is_absent (Ended value) = false
+-- there is no key
+abbrev pub no_keys : ℕ → Option Key
+no_keys k = None
 
--- a thread can run
-abbrev pub is_ready : Standing → Bool
-is_ready Absent = false
-is_ready Ready = true
-is_ready (Waits wait) = false
-is_ready (Ended value) = false
-
--- a thread is there and has not ended
-abbrev pub is_live : Standing → Bool
-is_live Absent = false
-is_live Ready = true
-is_live (Waits wait) = true
-is_live (Ended value) = false
-
--- what a thread waits for: nothing, the end of a thread, a mutex or a condition
-pub data Target : Type 0 where
-  Nothing : Target
-  EndOf : (thread : ℕ) → Target
-  MutexAt : (mutex : ℕ) → Target
-  ConditionAt : (condition : ℕ) → Target
-
--- what a wait is for; who waits to have a mutex back waits for that mutex
-abbrev pub aim : Wait → Target
-aim (Join u) = EndOf u
-aim (OfMutex m) = MutexAt m
-aim (Cond c m deadline count) = ConditionAt c
-aim (Reacquire m reply count) = MutexAt m
-
--- what a thread waits for
-abbrev pub target : Standing → Target
-target Absent = Nothing
-target Ready = Nothing
-target (Waits wait) = aim wait
-target (Ended value) = Nothing
-
--- it is this target, and not nothing
-abbrev pub is_target : Target → Target → Bool
-is_target (EndOf t) (EndOf u) = u == t
-is_target (MutexAt m) (MutexAt k) = k == m
-is_target (ConditionAt c) (ConditionAt k) = k == c
-is_target a b = false
-
--- a thread waits for the end of a thread (POSIX.1 pthread_join)
-abbrev pub joins : ℕ → Standing → Bool
-joins t standing = is_target (EndOf t) (target standing)
-
--- a thread waits for a mutex: to lock it, or to have it back after a condition (POSIX.1 pthread_mutex_lock, pthread_cond_wait)
-abbrev pub wants : ℕ → Standing → Bool
-wants m standing = is_target (MutexAt m) (target standing)
-
--- a thread waits for a condition (POSIX.1 pthread_cond_wait)
-abbrev pub waits_on : ℕ → Standing → Bool
-waits_on c standing = is_target (ConditionAt c) (target standing)
-
--- the wait of a thread that waits
-abbrev pub wait_of : Standing → Option Wait
-wait_of Absent = None
-wait_of Ready = None
-wait_of (Waits wait) = Some wait
-wait_of (Ended value) = None
-
--- the mutex with which a wait for a condition is made
-abbrev pub mutex_beside : Option Wait → Option ℕ
-mutex_beside None = None
-mutex_beside (Some (Join u)) = None
-mutex_beside (Some (OfMutex m)) = None
-mutex_beside (Some (Cond c m deadline count)) = Some m
-mutex_beside (Some (Reacquire m reply count)) = None
-
--- how often a wait gives a thread its mutex: once, or as often as it had it before its wait for a condition
-abbrev pub count_by : Option Wait → ℕ
-count_by None = 1
-count_by (Some (Join u)) = 1
-count_by (Some (OfMutex m)) = 1
-count_by (Some (Cond c m deadline count)) = count
-count_by (Some (Reacquire m reply count)) = count
-
--- the mutex with which a thread waits for a condition (POSIX.1 pthread_cond_wait)
-abbrev pub mutex_with : Standing → Option ℕ
-mutex_with standing = mutex_beside (wait_of standing)
-
--- how often a thread has the mutex that its wait gives it (POSIX.1 pthread_cond_wait)
-abbrev pub count_due : Standing → ℕ
-count_due standing = count_by (wait_of standing)
+-- all actions are the default
+abbrev pub default_actions : ℕ → Action
+default_actions sig = Default

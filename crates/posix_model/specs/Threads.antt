@@ -1,11 +1,11 @@
 -- Threads by their numbers, their attributes, and new threads (POSIX.1 pthread_create).
-use Rattle.std.specs.Prelude.{ℕ, ◌/◌, ◌%◌, ◌==◌, ◌&&◌, Bool, not, if◌then◌else◌, find, Option, replicate, slice_set, bit_and}
+use Rattle.std.specs.Prelude.{ℕ, ◌/◌, ◌%◌, ◌==◌, ◌&&◌, Bool, not, if◌then◌else◌, find, Option, [], replicate, slice_set, bit_and}
 use Rattle.std.specs.Int.{bit_at}
 use Rattle.std.specs.List.{list_any}
 use Rattle.thread_base.specs.Numbers.{policy_of}
 use Rattle.thread_base.specs.Priority.{tids}
 use Rattle.thread_base.specs.declared.Policy.{Policy}
-use Rattle.posix_model.specs.State.{State, Thread, Registers, Normal, Ready, is_absent, is_live, joins}
+use Rattle.posix_model.specs.State.{State, Thread, Registers, Normal, Ready, is_absent, is_live, joins, first_cancellation}
 use Rattle.posix_model.specs.declared.Arguments.{Arguments}
 
 -- there is a thread of a number, which may have ended
@@ -72,6 +72,10 @@ new_thread creator c = record {
   policy = policy_by creator.policy c.a3;
   used = 0;
   detached = says_detached c.a3;
+  mask = creator.mask;
+  frames = [];
+  cleanups = [];
+  cancellation = first_cancellation;
   phase = Normal;
   standing = Ready;
 }

@@ -1,9 +1,8 @@
 -- The text of a run (this project's own format).
-use Rattle.std.specs.Prelude.{ℕ, ◌==◌, ◌≡◌, ◌⊎◌, Bool, false, if◌then◌else◌, List, [], ◌∷◌, ◌++◌, map, sum, Option, Some, None}
+use Rattle.std.specs.Prelude.{ℕ, ◌+◌, ◌==◌, ◌≡◌, ◌⊎◌, Bool, false, if◌then◌else◌, List, [], ◌∷◌, ◌++◌, map, sum, Option, Some, None}
 use Rattle.thread_base.specs.Priority.{tids}
 use Rattle.posix_model.specs.State.{State}
-use Rattle.posix_model.specs.declared.Settings.{Settings}
-use Rattle.posix_model.specs.Runs.{Moment, make, moved, after, IsRun, Ends}
+use Rattle.posix_model.specs.Runs.{Rules, Moment, make, moved, after, IsRun, Ends}
 use Rattle.posix_model.specs.Lines.{lines, run_line, end_lines, sig_numbers}
 use Rattle.posix_model.specs.declared.Move.{Move}
 use Rattle.posix_model.specs.declared.Ending.{Ending}
@@ -20,19 +19,19 @@ switch_line before None = []
 switch_line before (Some t) = if is_last t before then [] else run_line t
 
 -- the text of one move
-abbrev pub move_text : Moment → Move → List ℕ
-move_text now move =
-    switch_line now.last (moved now move).last
-    ++ lines (make now.state move).report (moved now move).state.memory
+abbrev pub move_text : Rules → Moment → Move → List ℕ
+move_text rules now move =
+    switch_line now.last (moved rules now move).last
+    ++ lines (make rules now.state move).report (moved rules now move).state.memory
 
 -- the text of a list of moves
-abbrev pub text : Moment → List Move → List ℕ
-text now [] = []
-text now (move ∷ moves) = move_text now move ++ text (moved now move) moves
+abbrev pub text : Rules → Moment → List Move → List ℕ
+text rules now [] = []
+text rules now (move ∷ moves) = move_text rules now move ++ text rules (moved rules now move) moves
 
--- how many of a signal still pend, over all threads
+-- how many of a signal still pend, over the process and all threads
 abbrev pub left_of : State → ℕ → ℕ
-left_of s sig = sum (map (λ t. s.pending t sig) tids)
+left_of s sig = s.pending 0 sig + sum (map (λ t. s.pending t sig) tids)
 
 -- the same for each signal by its number
 unfoldable pub left : State → List ℕ
@@ -43,14 +42,14 @@ abbrev pub end_text : Moment → Ending → List ℕ
 end_text now ending = end_lines (left now.state) ending
 
 -- a list of moves is a whole run from a start, and this is its text, whose last line names its ending
-pub record IsWholeText (settings : Settings) (start : Moment) (ending : Ending) (trace : List ℕ) : Type 0 where
+pub record IsWholeText (rules : Rules) (start : Moment) (ending : Ending) (trace : List ℕ) : Type 0 where
   pub moves : List Move
-  pub run : IsRun settings start moves
-  pub ends : Ends settings (after start moves) ending
-  pub told : trace ≡ text start moves ++ end_text (after start moves) ending
+  pub run : IsRun rules start moves
+  pub ends : Ends rules (after rules start moves) ending
+  pub told : trace ≡ text rules start moves ++ end_text (after rules start moves) ending
 
 -- a list of moves is a run from a start, and this is its text so far, or its whole text
-pub record IsText (settings : Settings) (start : Moment) (trace : List ℕ) : Type 0 where
+pub record IsText (rules : Rules) (start : Moment) (trace : List ℕ) : Type 0 where
   pub moves : List Move
-  pub run : IsRun settings start moves
-  pub told : (trace ≡ text start moves) ⊎ ((ending : Ending) × Ends settings (after start moves) ending × (trace ≡ text start moves ++ end_text (after start moves) ending))
+  pub run : IsRun rules start moves
+  pub told : (trace ≡ text rules start moves) ⊎ ((ending : Ending) × Ends rules (after rules start moves) ending × (trace ≡ text rules start moves ++ end_text (after rules start moves) ending))

@@ -1,9 +1,13 @@
 //! Small cases of the definitions, each computed by the checker. The functions do nothing.
-#![tactic(auto, unfolding(thread_base::specs::Maps::put, thread_base::specs::Priority::tids, thread_base::specs::Priority::leads, thread_base::specs::Priority::effective, thread_base::specs::Objects::condition_numbers, crate::specs::Scheduling::eff, crate::specs::Scheduling::chosen, crate::specs::Calls::call_row, crate::specs::Reports::nothing_told))]
+#![tactic(auto, unfolding(thread_base::specs::Maps::put, thread_base::specs::Priority::tids, thread_base::specs::Priority::leads, thread_base::specs::Priority::effective, thread_base::specs::Objects::condition_numbers, thread_base::specs::Deliveries::signals, crate::specs::Scheduling::eff, crate::specs::Scheduling::chosen, crate::specs::Calls::call_row, crate::specs::Reports::nothing_told, crate::specs::Lines::sig_numbers, crate::specs::Deliveries::next_delivery, crate::specs::Exits::due_key, crate::specs::Journals::untaken, crate::specs::Journals::reached, crate::specs::Runs::due))]
 
 ghost use Rattle.posix_model.specs.Examples as examples;
 ghost use Rattle.posix_model.specs.MutexExamples as mutexes;
 ghost use Rattle.posix_model.specs.ConditionExamples as conditions;
+ghost use Rattle.posix_model.specs.SignalExamples as signals;
+ghost use Rattle.posix_model.specs.ArrivalExamples as arrivals;
+ghost use Rattle.posix_model.specs.ExitExamples as exits;
+ghost use Rattle.posix_model.specs.JournalExamples as journals;
 
 /// The last thread of a chain of waits runs with the priority of the first.
 pub fn chain()
@@ -148,4 +152,89 @@ pub fn woken_in_vain()
 /// A thread that is cancelled in its wait starts its exit once it has its mutex.
 pub fn cancelled_waits()
     ensures { conditions.CancelledWaits }
+{}
+
+/// A fault that its thread cannot take ends the process at once, and else pends on it.
+pub fn faults_end_at_once()
+    ensures { signals.FaultsEndAtOnce }
+{}
+
+/// A handler that interrupts a wait for a condition is entered once the thread has its mutex back.
+pub fn interrupted_condition()
+    ensures { signals.InterruptedCondition }
+{}
+
+/// A handler ends a wait for a mutex, and its thread locks again afterwards.
+pub fn interrupted_lock()
+    ensures { signals.InterruptedLock }
+{}
+
+/// A handler ends a sleep and a read with EINTR, and a join is made again.
+pub fn interrupted_sleep()
+    ensures { signals.InterruptedSleep }
+{}
+
+/// The return of a handler restores registers and mask.
+pub fn handler_returns()
+    ensures { signals.HandlerReturns }
+{}
+
+/// The return of a cleanup routine restores the registers, and the mask stays.
+pub fn cleanup_returns()
+    ensures { signals.CleanupReturns }
+{}
+
+/// A signal goes first to who waits for it, of the greatest priority and the lowest number.
+pub fn sigwait_takes()
+    ensures { signals.SigwaitTakes }
+{}
+
+/// Signals that come before they are delivered are delivered as one.
+pub fn merged_count()
+    ensures { signals.MergedCount }
+{}
+
+/// A signal that is ignored is dropped where it comes, and KILL ends the process there.
+pub fn ignored_arrives()
+    ensures { arrivals.IgnoredArrives }
+{}
+
+/// A tick is charged to the thread that ran, before others wake, and never to a FIFO one.
+pub fn tick_charges()
+    ensures { arrivals.TickCharges }
+{}
+
+/// A wait for a condition whose time has come ends with ETIMEDOUT, a sleep with 0.
+pub fn deadline_passes()
+    ensures { arrivals.DeadlinePasses }
+{}
+
+/// Input goes to readers by priority and number while some is left; its end answers all with 0.
+pub fn readers_served()
+    ensures { arrivals.ReadersServed }
+{}
+
+/// A cancelled waiter of a condition starts its exit once it has its mutex, and a sleeper at once.
+pub fn cancelled_waiter()
+    ensures { exits.CancelledWaiter }
+{}
+
+/// An exit within the exit changes its value, and rounds and keys go on.
+pub fn exit_within_exit()
+    ensures { exits.ExitWithinExit }
+{}
+
+/// Destructors run in four rounds at most, each with the value that its key had.
+pub fn four_rounds()
+    ensures { exits.FourRounds }
+{}
+
+/// While an entry is due no instruction is allowed; where nothing else can happen the next entry is due.
+pub fn all_arrive_first()
+    ensures { journals.AllArriveFirst }
+{}
+
+/// A run ends idle where every entry is taken, and with its budget where an instruction would be next.
+pub fn runs_end()
+    ensures { journals.RunsEnd }
 {}

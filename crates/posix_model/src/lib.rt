@@ -3,12 +3,13 @@
 
 ghost use Rattle.std.specs.Prelude.{◌≡◌};
 ghost use Rattle.posix_model.specs.Reports.{nothing_told};
-ghost use Rattle.posix_model.specs.Laws.{OneRun, Progress, Completion, Goodness, InstructionsKeepGood, DeliveriesKeepGood, PriorityIsInherited, BestComesFirst, EveryoneIsWoken};
+ghost use Rattle.posix_model.specs.Laws.{OneRun, InstructionIsAlone, Progress, Completion, StaysEnd, Goodness, PriorityIsInherited, BestComesFirst, EveryoneIsWoken};
+ghost use Rattle.posix_model.specs.Laws.{InstructionsKeepGood, DeliveriesKeepGood, ArrivalsKeepGood, PlainInstructionsLeave, PendingIsBounded};
 ghost use Rattle.posix_model.specs.State.{EndOf, aim, is_target};
 ghost use Rattle.thread_base.specs.Numbers.{code_of};
 
 use rv_exec::Special;
-use thread_base::{Errno, Place, Sig, Tid};
+use thread_base::{Errno, Place, Sig, SigSet, Tid};
 
 mod attributes;
 pub mod examples;
@@ -62,8 +63,9 @@ pub enum RetakeReply {
     Cancel,
 }
 
-/// What a thread waits for: the end of a thread, a mutex, a condition with a mutex, or to have a mutex back
-/// after a condition. `count`, from 1 to 65,535, is how often it had locked the mutex.
+/// What a thread waits for: the end of a thread, a mutex, a condition with a mutex, to have a mutex back after a
+/// condition, a signal of a set, a time, or input for a buffer. `count`, from 1 to 65,535, is how often it had locked
+/// the mutex; `deadline` and `until` count ticks.
 #[derive(Clone, Copy, Debug, PartialEq, Eq)]
 pub enum Wait {
     Join(Tid),
@@ -79,6 +81,14 @@ pub enum Wait {
         reply: RetakeReply,
         count: u32,
     },
+    Signal(SigSet),
+    Sleep {
+        until: u64,
+    },
+    Read {
+        buffer: u32,
+        length: u32,
+    },
 }
 
 impl Wait {
@@ -91,6 +101,9 @@ impl Wait {
             Wait::Mutex(_) => false,
             Wait::Cond { .. } => false,
             Wait::Reacquire { .. } => false,
+            Wait::Signal(_) => false,
+            Wait::Sleep { .. } => false,
+            Wait::Read { .. } => false,
         }
     }
 }
@@ -212,9 +225,16 @@ impl Report {
     }
 }
 
-/// The law of one list: under the same settings one start has one whole run, with one ending.
+/// The law of one list: two whole runs from one good start that have one text have the same moves, but for
+/// where entries were presented, and the same ending.
 pub fn one_run()
     ensures { OneRun }
+{}
+
+/// Where an instruction is allowed, no other move is.
+#[tactic(auto, using(crate::proofs::OneRun::instruction_is_alone))]
+pub fn instruction_is_alone()
+    ensures { InstructionIsAlone }
 {}
 
 /// The law of progress: within the budget a run has ended, or a move is allowed.
@@ -242,6 +262,12 @@ pub fn deliveries_keep_good()
     ensures { DeliveriesKeepGood }
 {}
 
+/// The law of good arrivals: whatever arrives keeps a good state good.
+#[tactic(auto, using(crate::proofs::GoodMoves::arrivals_keep_good))]
+pub fn arrivals_keep_good()
+    ensures { ArrivalsKeepGood }
+{}
+
 /// The law of inherited priority: a thread's effective priority is the greatest own priority over the thread
 /// itself and every thread from which a chain of waits leads to it, by POSIX.1.
 #[tactic(auto, using(crate::proofs::PriorityLaws::priority_is_inherited))]
@@ -265,6 +291,24 @@ pub fn everyone_is_woken()
 #[tactic(auto, using(crate::proofs::RunLaws::completion))]
 pub fn completion()
     ensures { Completion }
+{}
+
+/// Every stay ends: a delivery lowers the weight, an arrival raises it by 3 at most, and it is 1,870 at most.
+#[tactic(auto, using(crate::proofs::Weights::stays_end))]
+pub fn stays_end()
+    ensures { StaysEnd }
+{}
+
+/// A plain instruction leaves the chosen thread and the next delivery.
+pub fn plain_instructions_leave()
+    ensures { PlainInstructionsLeave }
+{}
+
+/// The sum of all that pends is at most the instructions made and the entries taken together, the time is at most
+/// the ticks taken, and nothing pends but signals in scope.
+#[tactic(auto, using(crate::proofs::PendingSums::pending_is_bounded))]
+pub fn pending_is_bounded()
+    ensures { PendingIsBounded }
 {}
 
 #[cfg(test)]

@@ -1,7 +1,7 @@
 -- What moves count.
 use Rattle.std.proofs.Common.{◌≡◌, ◌∙◌, ap, sym, refl, ℕ, ◌+◌, ◌*◌, ◌≤◌, Bool, true, false, List, [], ◌∷◌, ◌++◌, length, Option, None, Some, add-zero, zero-add, add_assoc, arith}
 use Rattle.std.proofs.lemmas.Bool.{eq-eqb}
-use Rattle.posix_model.specs.Runs.{Moment, make, moved, after}
+use Rattle.posix_model.specs.Runs.{Rules, Moment, make, moved, after}
 use Rattle.posix_model.specs.declared.Head.{Head}
 use Rattle.posix_model.specs.declared.Head.TheVariants.{Quiet, Deliver as DeliverHead}
 use Rattle.posix_model.specs.declared.Move.{Move}
@@ -24,16 +24,16 @@ plus_plus x y z =
     counts_are (plus (plus x y) z) (plus x (plus y z)) (add_assoc x.instructions y.instructions z.instructions) (add_assoc x.calls y.calls z.calls)
     (add_assoc x.arrivals y.arrivals z.arrivals) (add_assoc x.deliveries y.deliveries z.deliveries) (add_assoc x.switches y.switches z.switches)
 
-pub counts-append : (now : Moment) (moves others : List Move) → counts now (moves ++ others) ≡ plus (counts now moves) (counts (after now moves) others)
-counts-append now [] others = sym (none_plus (counts now others))
-counts-append now (m ∷ ms) others =
-    ap (plus (counted now m)) (counts-append (moved now m) ms others)
-    ∙ sym (plus_plus (counted now m) (counts (moved now m) ms) (counts (after (moved now m) ms) others))
+pub counts-append : (rules : Rules) (now : Moment) (moves others : List Move) → counts rules now (moves ++ others) ≡ plus (counts rules now moves) (counts rules (after rules now moves) others)
+counts-append rules now [] others = sym (none_plus (counts rules now others))
+counts-append rules now (m ∷ ms) others =
+    ap (plus (counted rules now m)) (counts-append rules (moved rules now m) ms others)
+    ∙ sym (plus_plus (counted rules now m) (counts rules (moved rules now m) ms) (counts rules (after rules (moved rules now m) ms) others))
 
 -- what an instruction adds to what is told, and a delivery
-pub instruction_counts : (now : Moment) (t : ℕ) (last : Option ℕ) (head : Head) → last ≡ Some t → (make now.state (Instr t)).report.head ≡ head → is_delivery head ≡ false
-    → told_of (counted now (Instr t)) ≡ told_by now.last last head
-instruction_counts now t last head by is other = λ i. record {
+pub instruction_counts : (rules : Rules) (now : Moment) (t : ℕ) (last : Option ℕ) (head : Head) → last ≡ Some t → (make rules now.state (Instr t)).report.head ≡ head → is_delivery head ≡ false
+    → told_of (counted rules now (Instr t)) ≡ told_by now.last last head
+instruction_counts rules now t last head by is other = λ i. record {
   instructions = 0;
   calls = one_if (is_call (is i));
   arrivals = 0;
@@ -45,8 +45,8 @@ same_thread : (last : Option ℕ) → is_switch last last ≡ false
 same_thread None = refl
 same_thread (Some t) = rw (eq-eqb t t refl) refl
 
-pub delivery_counts : (now : Moment) (last : Option ℕ) (head : Head) (to sig count : ℕ) → last ≡ now.last → head ≡ DeliverHead to sig count → told_of (counted now Deliver) ≡ told_by now.last last head
-delivery_counts now last head to sig count by is = λ i. record {
+pub delivery_counts : (rules : Rules) (now : Moment) (last : Option ℕ) (head : Head) (to sig count : ℕ) → last ≡ now.last → head ≡ DeliverHead to sig count → told_of (counted rules now Deliver) ≡ told_by now.last last head
+delivery_counts rules now last head to sig count by is = λ i. record {
   instructions = 0;
   calls = one_if (is_call (sym is i));
   arrivals = 0;
@@ -59,16 +59,16 @@ pub told_nothing : (before after : Option ℕ) → after ≡ before → told_by 
 told_nothing before after same = ap (λ (b : Bool). record no_counts { switches = one_if b }) (ap (is_switch before) same ∙ same_thread before)
 
 -- each instruction is counted
-one_instruction : (now : Moment) (m : Move) → (counted now m).instructions + now.instructions ≡ (moved now m).instructions
-one_instruction now (Instr tid) = omega arith
-one_instruction now (Arrive first count at) = omega arith
-one_instruction now Deliver = omega arith
+one_instruction : (rules : Rules) (now : Moment) (m : Move) → (counted rules now m).instructions + now.instructions ≡ (moved rules now m).instructions
+one_instruction rules now (Instr tid) = omega arith
+one_instruction rules now (Arrive first count at) = omega arith
+one_instruction rules now Deliver = omega arith
 
-pub all_instructions : (now : Moment) (moves : List Move) → (counts now moves).instructions + now.instructions ≡ (after now moves).instructions
-all_instructions now [] = omega arith
-all_instructions now (m ∷ ms) =
-    let rest = all_instructions (moved now m) ms in
-    let one = one_instruction now m in
+pub all_instructions : (rules : Rules) (now : Moment) (moves : List Move) → (counts rules now moves).instructions + now.instructions ≡ (after rules now moves).instructions
+all_instructions rules now [] = omega arith
+all_instructions rules now (m ∷ ms) =
+    let rest = all_instructions rules (moved rules now m) ms in
+    let one = one_instruction rules now m in
     omega (arith, rest, one)
 
 -- three things are told of a move at most
@@ -79,17 +79,17 @@ one_at_most : (b : Bool) → one_if b ≤ 1
 one_at_most true = omega arith
 one_at_most false = omega arith
 
-three_each : (now : Moment) (m : Move) → things (counted now m) ≤ 3
-three_each now (Instr t) =
-    let call = one_at_most (is_call (make now.state (Instr t)).report.head) in
-    let switch = one_at_most (is_switch now.last (moved now (Instr t)).last) in
+three_each : (rules : Rules) (now : Moment) (m : Move) → things (counted rules now m) ≤ 3
+three_each rules now (Instr t) =
+    let call = one_at_most (is_call (make rules now.state (Instr t)).report.head) in
+    let switch = one_at_most (is_switch now.last (moved rules now (Instr t)).last) in
     omega (arith, call, switch)
-three_each now (Arrive first count at) = omega arith
-three_each now Deliver = omega arith
+three_each rules now (Arrive first count at) = omega arith
+three_each rules now Deliver = omega arith
 
-pub few : (now : Moment) (moves : List Move) → things (counts now moves) ≤ 3 * length moves
-few now [] = omega arith
-few now (m ∷ ms) =
-    let one = three_each now m in
-    let rest = few (moved now m) ms in
+pub few : (rules : Rules) (now : Moment) (moves : List Move) → things (counts rules now moves) ≤ 3 * length moves
+few rules now [] = omega arith
+few rules now (m ∷ ms) =
+    let one = three_each rules now m in
+    let rest = few rules (moved rules now m) ms in
     omega (arith, one, rest)

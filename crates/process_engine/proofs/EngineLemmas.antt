@@ -1,14 +1,18 @@
 -- A process at rest and in a move, and its first instruction of a move.
 use Rattle.std.proofs.Common.{◌≡◌, ◌∙◌, ap, sym, refl, subst, inl, inr, ℕ, ◌+◌, ◌≤◌, true, false, List, [], ◌∷◌, length, drop, Option, Some, None, arith}
 use Rattle.thread_base.specs.Priority.{tids}
+use Rattle.journal_text.specs.Contents.{Contents, empty}
+use Rattle.journal_text.specs.Valid.{IsJournal}
 use Rattle.ready_queues.specs.Queue.{Queue}
-use Rattle.posix_model.specs.State.{State, none_pending}
+use Rattle.posix_model.specs.State.{State, Ready, none_pending}
 use Rattle.posix_model.specs.Scheduling.{chosen}
 use Rattle.posix_model.specs.Changes.{Outcome}
-use Rattle.posix_model.specs.Deliveries.{next_delivery, delivered, deliver}
+use Rattle.posix_model.specs.Deliveries.{Gives, next_delivery, delivered, deliver}
+use Rattle.posix_model.specs.Good.{IsGood}
+use Rattle.posix_model.specs.Journals.{Taken, nothing_taken, untaken}
 use Rattle.posix_model.specs.Instructions.{instruction}
 use Rattle.posix_model.specs.Reports.{nothing_told}
-use Rattle.posix_model.specs.Runs.{Moment, Allowed, IsTurnOf, IsIdle as IsIdleState, Ends, make, moved}
+use Rattle.posix_model.specs.Runs.{Rules, Moment, Allowed, IsTurnOf, IsIdle as IsIdleRun, Ends, make, moved, due}
 use Rattle.posix_model.specs.Lines.{lines, head_line, alarm_line, out_line, took_line, count_lines, sig_numbers, gone_line, done_lines, done_line}
 use Rattle.posix_model.specs.declared.Ending.{Ending}
 use Rattle.posix_model.specs.declared.Ending.TheVariants.{Budget, Idle}
@@ -17,10 +21,14 @@ use Rattle.posix_model.specs.declared.Head.TheVariants.{Quiet, Deliver as Delive
 use Rattle.posix_model.specs.declared.Move.{Move}
 use Rattle.posix_model.specs.declared.Move.TheVariants.{Instr, Arrive, Deliver}
 use Rattle.posix_model.specs.declared.Report.{Report}
-use Rattle.posix_model.specs.declared.Settings.{Settings}
 use Rattle.posix_model.proofs.DeliveryLemmas.{next_none}
+use Rattle.posix_model.proofs.GoodMoves.{goodness}
+use Rattle.posix_model.proofs.JournalLemmas.{empty_is_journal, no_entry_due, none_untaken}
+use Rattle.kernel_state.proofs.PendingLemmas.{not_cancelled, pends_once}
+use Rattle.posix_model.proofs.StandingLemmas.{ready_is}
+use Rattle.kernel_state.proofs.ViewLemmas.{view_plain}
 use Rattle.trace_text.specs.Counting.{is_delivery, counted, told_of, told_by as added_by}
-use Rattle.kernel_state.specs.View.{view, outcome}
+use Rattle.kernel_state.specs.View.{view, outcome, one_pending, IsPrompt}
 use Rattle.kernel_state.specs.Changing.{owed}
 use Rattle.kernel_state.specs.Begun.{IsBegun}
 use Rattle.kernel_state.specs.Kernels.{KernelState, remaining, IsEmpty, IsIdle, owed_by}
@@ -30,7 +38,7 @@ use Rattle.process_engine.specs.Advancing.{HasGoneOn, HasBegun, BeginsInstructio
 use Rattle.process_engine.specs.declared.stage.Advance.TheVariants.{Plain, Switched, Begun}
 use Rattle.process_engine.specs.declared.stage.Stage.{Stage}
 use Rattle.process_engine.specs.declared.stage.Stage.TheVariants.{Going, Paused, InCall}
-use Rattle.kernel_state.proofs.NoteLemmas.{idle_remaining}
+use Rattle.kernel_state.proofs.NoteLemmas.{idle_remaining, told_delivery}
 use Rattle.process_engine.proofs.CountLemmas.{instruction_counts, delivery_counts}
 use Rattle.process_engine.proofs.InstructionLemmas.{has_begun}
 
@@ -59,24 +67,41 @@ pub rest_stands : (p : Engine) → IsSound p → (position_of p).telling ≡ Non
 rest_stands p sound e = rests_at p.stage p.kernel p.last (owed_of p).report sound.stands e
 
 -- a process after a move is sound, and so is one whose run stays
-within_budget : (settings : Settings) (now : Moment) (move : Move) → Allowed settings now move → now.instructions ≤ settings.budget → (moved now move).instructions ≤ settings.budget
-within_budget settings now (Instr t) allowed within = let less = allowed.1 in omega (arith, less)
-within_budget settings now (Arrive first count at) allowed within = absurd allowed
-within_budget settings now Deliver allowed within = within
+within_budget : (rules : Rules) (now : Moment) (move : Move) → Allowed rules now move → now.instructions ≤ rules.settings.budget → (moved rules now move).instructions ≤ rules.settings.budget
+within_budget rules now (Instr t) allowed within = let less = allowed.1 in omega (arith, less)
+within_budget rules now (Arrive first count at) allowed within = within
+within_budget rules now Deliver allowed within = within
 
-module _ (p q : Engine) (sound : IsSound p) (settings : q.settings ≡ p.settings) (stands : Stands order q.kernel q.last q.stage) where
-  sound_at : (now : Moment) → moment_of q ≡ now → now.instructions ≤ p.settings.budget → IsSound q
-  sound_at now is within =
-      let budget = ap (λ (x : Settings). x.budget) settings in
+module _ (p q : Engine) (sound : IsSound p) (rules : q.rules ≡ p.rules) (stands : Stands order q.kernel q.last q.stage) where
+  sound_at : (now : Moment) → moment_of q ≡ now → now.instructions ≤ p.rules.settings.budget → IsGood now.state → IsSound q
+  sound_at now is within good =
+      let budget = ap (λ (x : Rules). x.settings.budget) rules in
       let instructions = ap (λ (x : Moment). x.instructions) is in
       let limit = sound.limit in
-      record { within = omega (arith, budget, instructions, within); limit = omega (arith, budget, limit); stands = stands }
+      record {
+        within = omega (arith, budget, instructions, within);
+        limit = omega (arith, budget, limit);
+        journal = ap (λ (x : Rules). x.journal) rules ∙ sound.journal;
+        good = subst (λ (x : Moment). IsGood x.state) (sym is) good;
+        stands = stands;
+      }
 
   pub sound_same : moment_of q ≡ moment_of p → IsSound q
-  sound_same same = sound_at (moment_of p) same sound.within
+  sound_same same = sound_at (moment_of p) same sound.within sound.good
 
-  pub sound_moved : (move : Move) → Allowed p.settings (moment_of p) move → moment_of q ≡ moved (moment_of p) move → IsSound q
-  sound_moved move allowed leads = sound_at (moved (moment_of p) move) leads (within_budget p.settings (moment_of p) move allowed sound.within)
+  pub sound_moved : (move : Move) → Allowed p.rules (moment_of p) move → moment_of q ≡ moved p.rules (moment_of p) move → IsSound q
+  sound_moved move allowed leads =
+      sound_at (moved p.rules (moment_of p) move) leads (within_budget p.rules (moment_of p) move allowed sound.within) (goodness.1 p.rules (moment_of p) move sound.good allowed)
+
+-- no entry is due
+nothing_due : (rules : Rules) (now : Moment) → rules.journal ≡ empty → due rules now ≡ []
+nothing_due rules now none = ap (λ (j : Contents). due (record rules { journal = j }) now) none ∙ no_entry_due rules.settings now
+
+nothing_left : (rules : Rules) (taken : Taken) → rules.journal ≡ empty → untaken rules.journal.entries taken ≡ []
+nothing_left rules taken none = ap (λ (j : Contents). untaken j.entries taken) none ∙ none_untaken taken
+
+pub is_journal : (rules : Rules) → rules.journal ≡ empty → IsJournal rules.journal
+is_journal rules none = subst IsJournal (sym none) empty_is_journal
 
 -- a thread is chosen, and has its turn
 pub record Turn (p : Engine) (t : ℕ) : Type 0 where
@@ -112,42 +137,54 @@ module _ (p : Engine) (t : ℕ) (turn : Turn p t) (k : KernelState Queue) (same 
   }
 
 -- where nothing pends, no delivery is next
-calm_next : (s : State) → s.pending ≡ none_pending → next_delivery s ≡ None
-calm_next s calm = next_none s (λ t sig. ap (λ (m : ℕ → ℕ → ℕ). m t sig) calm)
+calm_next : (p : Engine) → (view order p.kernel.tables).pending ≡ none_pending → next_delivery (view order p.kernel.tables) ≡ None
+calm_next p calm =
+    let s = view order p.kernel.tables in
+    next_none s (λ t. not_cancelled (s.threads t) ((view_plain order p.kernel.tables).threads t)) (λ t sig. ap (λ (m : ℕ → ℕ → ℕ). m t sig) calm)
 
-turn_of : (p : Engine) (t : ℕ) → Turn p t → IsTurnOf (moment_of p).state t
-turn_of p t turn =
-    subst (λ s. IsTurnOf s t) (sym (moment_state p turn.rest))
-    (record { going_on = turn.going_on; settled = calm_next (view order p.kernel.tables) turn.calm; first = turn.first })
+turn_of : (p : Engine) (t : ℕ) → p.rules.journal ≡ empty → Turn p t → IsTurnOf p.rules (moment_of p) t
+turn_of p t none turn =
+    let same = moment_state p turn.rest in
+    record {
+      going_on = ap (λ (s : State). s.over) same ∙ turn.going_on;
+      nothing_due = nothing_due p.rules (moment_of p) none;
+      settled = ap next_delivery same ∙ calm_next p turn.calm;
+      first = ap chosen same ∙ turn.first;
+    }
 
 -- the run has ended
-has_ended : (p old : Engine) (ending : Ending) → p ≡ old → Ends p.settings (moment_of p) ending → EndsHere old old ending
+has_ended : (p old : Engine) (ending : Ending) → p ≡ old → Ends p.rules (moment_of p) ending → EndsHere old old ending
 has_ended p old ending is ends = subst (λ x. EndsHere x x ending) is (record { ends = ends; same = refl })
 
 pub is_over : (p old : Engine) (ending : Ending) → p ≡ old → IsIdle p.kernel → (view order p.kernel.tables).over ≡ Some ending → EndsHere old old ending
 is_over p old ending is rest over = has_ended p old ending is (inl (ap (λ (s : State). s.over) (moment_state p rest) ∙ over))
 
-pub is_idle : (p old : Engine) → p ≡ old → IsIdle p.kernel → (view order p.kernel.tables).over ≡ None → (view order p.kernel.tables).pending ≡ none_pending
+pub is_idle : (p old : Engine) → p ≡ old → IsSound p → IsIdle p.kernel → (view order p.kernel.tables).over ≡ None → (view order p.kernel.tables).pending ≡ none_pending
     → chosen (view order p.kernel.tables) ≡ None → EndsHere old old Idle
-is_idle p old is rest over calm nobody =
-    let s = view order p.kernel.tables in
-    let idle : IsIdleState s = record { going_on = over; settled = calm_next s calm; nobody = nobody } in
-    has_ended p old Idle is (inr (inl (refl, subst IsIdleState (sym (moment_state p rest)) idle)))
+is_idle p old is sound rest over calm nobody =
+    let same = moment_state p rest in
+    let idle : IsIdleRun p.rules (moment_of p) = record {
+      going_on = ap (λ (s : State). s.over) same ∙ over;
+      settled = ap next_delivery same ∙ calm_next p calm;
+      nobody = ap chosen same ∙ nobody;
+      taken = nothing_left p.rules (moment_of p).taken sound.journal;
+    } in
+    has_ended p old Idle is (inr (inl (refl, idle)))
 
-pub is_spent : (p old : Engine) (t : ℕ) → p ≡ old → Turn p t → p.instructions ≡ p.settings.budget → EndsHere old old Budget
-is_spent p old t is turn spent = has_ended p old Budget is (inr (inr (refl, record { used_up = spent; tid = t; turn = turn_of p t turn })))
+pub is_spent : (p old : Engine) (t : ℕ) → p ≡ old → IsSound p → Turn p t → p.instructions ≡ p.rules.settings.budget → EndsHere old old Budget
+is_spent p old t is sound turn spent = has_ended p old Budget is (inr (inr (refl, record { used_up = spent; tid = t; turn = turn_of p t sound.journal turn })))
 
 -- a move was begun
-module _ (p q : Engine) (k : KernelState Queue) (from : view order k.tables ≡ view order p.kernel.tables) (move : Move) (g : Outcome) (has : HasBegun order k q.kernel g) (made : g ≡ make (moment_of p).state move) (allowed : Allowed p.settings (moment_of p) move)
+module _ (p q : Engine) (k : KernelState Queue) (from : view order k.tables ≡ view order p.kernel.tables) (move : Move) (g : Outcome) (has : HasBegun order k q.kernel g) (made : g ≡ make p.rules (moment_of p).state move) (allowed : Allowed p.rules (moment_of p) move)
     (stage : q.stage ≡ InCall) where
   owed_is : owed_of q ≡ g
   unfolding owed_of
   owed_is = has.owed
 
-  state_is : (owed_of q).state ≡ (make (moment_of p).state move).state
+  state_is : (owed_of q).state ≡ (make p.rules (moment_of p).state move).state
   state_is = ap (λ (x : Outcome). x.state) (owed_is ∙ made)
 
-  begins : moment_of q ≡ moved (moment_of p) move → told_of (counted (moment_of p) move) ≡ added_by p.last q.last g.report.head → BeginsMove p q
+  begins : moment_of q ≡ moved p.rules (moment_of p) move → told_of (counted p.rules (moment_of p) move) ≡ added_by p.last q.last g.report.head → BeginsMove p q
   begins leads counts = record {
     makes = record { move = move; allowed = allowed; leads = leads; counts = counts ∙ ap (λ (x : Outcome). added_by p.last q.last x.report.head) (sym owed_is) };
     told = ap (λ (x : Outcome). x.report) (owed_is ∙ made);
@@ -168,27 +205,27 @@ unfolding nothing_told
 quiet_head t = refl
 
 -- the chosen thread is in place, and its instruction is made or begun
-module _ (p old : Engine) (is : p ≡ old) (t : ℕ) (sound : IsSound p) (turn : Turn p t) (other : p.instructions ≡ p.settings.budget → ⊥) where
-  allowed_here : Allowed p.settings (moment_of p) (Instr t)
-  allowed_here = (turn_of p t turn, (let within = sound.within in omega (arith, within, other)))
+module _ (p old : Engine) (is : p ≡ old) (t : ℕ) (sound : IsSound p) (turn : Turn p t) (other : p.instructions ≡ p.rules.settings.budget → ⊥) where
+  allowed_here : Allowed p.rules (moment_of p) (Instr t)
+  allowed_here = (turn_of p t sound.journal turn, (let within = sound.within in omega (arith, within, other)))
 
   module _ (k l : KernelState Queue) (same : view order k.tables ≡ view order p.kernel.tables) (placed : k.tables.placed ≡ t)
       (last : Option ℕ) (by : last ≡ Some t) where
     abbrev at : Stage → Engine
-    at stage = record { kernel = l; instructions = p.instructions + 1; last = last; stage = stage; settings = p.settings }
+    at stage = record { kernel = l; instructions = p.instructions + 1; last = last; stage = stage; rules = p.rules }
 
     made_is : instruction (view order k.tables) k.tables.placed ≡ instruction (moment_of p).state t
     made_is = λ i. instruction ((same ∙ sym (moment_state p turn.rest)) i) (placed i)
 
-    leads_to : (stage : Stage) → (owed_of (at stage)).state ≡ (instruction (moment_of p).state t).state → moment_of (at stage) ≡ moved (moment_of p) (Instr t)
-    leads_to stage state = λ i. record { state = state i; instructions = p.instructions + 1; last = by i }
+    leads_to : (stage : Stage) → (owed_of (at stage)).state ≡ (instruction (moment_of p).state t).state → moment_of (at stage) ≡ moved p.rules (moment_of p) (Instr t)
+    leads_to stage state = λ i. record { state = state i; instructions = p.instructions + 1; last = by i; taken = nothing_taken }
 
     adds : (head : Head) → (instruction (view order k.tables) k.tables.placed).report.head ≡ head → is_delivery head ≡ false
-        → told_of (counted (moment_of p) (Instr t)) ≡ added_by p.last last head
-    adds head tells none = instruction_counts (moment_of p) t last head by (sym (ap (λ (g : Outcome). g.report.head) made_is) ∙ tells) none
+        → told_of (counted p.rules (moment_of p) (Instr t)) ≡ added_by p.last last head
+    adds head tells none = instruction_counts p.rules (moment_of p) t last head by (sym (ap (λ (g : Outcome). g.report.head) made_is) ∙ tells) none
 
     module _ (on : HasGoneOn order k l) (stage : Stage) (going : stage ≡ Going) where
-      went_to : moment_of (at stage) ≡ moved (moment_of p) (Instr t)
+      went_to : moment_of (at stage) ≡ moved p.rules (moment_of p) (Instr t)
       went_to = leads_to stage (moment_state (at stage) on.rest ∙ on.state ∙ ap (λ (g : Outcome). g.state) made_is)
 
       plain : MakesPlain p (at stage)
@@ -203,57 +240,63 @@ module _ (p old : Engine) (is : p ≡ old) (t : ℕ) (sound : IsSound p) (turn :
         shown = sym (moment_state (at stage) on.rest);
       }
 
-      pub goes_plain : last ≡ p.last → Advances old Plain (record { kernel = l; instructions = p.instructions + 1; last = last; stage = stage; settings = p.settings })
+      pub goes_plain : last ≡ p.last → Advances old Plain (record { kernel = l; instructions = p.instructions + 1; last = last; stage = stage; rules = p.rules })
       goes_plain stays = (subst (λ x. MakesPlain x (at stage)) is plain, stays ∙ ap (λ (x : Engine). x.last) is)
 
-      pub goes_switched : Advances old (Switched p.last) (record { kernel = l; instructions = p.instructions + 1; last = last; stage = stage; settings = p.settings })
+      pub goes_switched : Advances old (Switched p.last) (record { kernel = l; instructions = p.instructions + 1; last = last; stage = stage; rules = p.rules })
       goes_switched = (subst (λ x. MakesPlain x (at stage)) is plain, ap (λ (x : Engine). x.last) is)
 
-      pub plain_sound : IsSound (record { kernel = l; instructions = p.instructions + 1; last = last; stage = stage; settings = p.settings })
+      pub plain_sound : IsSound (record { kernel = l; instructions = p.instructions + 1; last = last; stage = stage; rules = p.rules })
       plain_sound =
           let stands : Stands order l last Going = (on.rest, on.turn, by ∙ ap Some (sym (on.placed ∙ placed))) in
           sound_moved p (at stage) sound refl (subst (Stands order l last) (sym going) stands) (Instr t) allowed_here went_to
 
     module _ (has : BeginsInstruction order k l (instruction (view order k.tables) k.tables.placed)) where
-      begun_to : moment_of (at InCall) ≡ moved (moment_of p) (Instr t)
+      begun_to : moment_of (at InCall) ≡ moved p.rules (moment_of p) (Instr t)
       begun_to = leads_to InCall (state_is p (at InCall) k same (Instr t) _ has.0 made_is allowed_here refl)
 
-      pub goes_begun : Advances old (Begun p.last) (record { kernel = l; instructions = p.instructions + 1; last = last; stage = InCall; settings = p.settings })
+      pub goes_begun : Advances old (Begun p.last) (record { kernel = l; instructions = p.instructions + 1; last = last; stage = InCall; rules = p.rules })
       goes_begun =
           (subst (λ x. BeginsMove x (at InCall)) is (begins p (at InCall) k same (Instr t) _ has.0 made_is allowed_here refl begun_to (adds _ refl has.1)), ap (λ (x : Engine). x.last) is)
 
-      pub begun_sound : IsSound (record { kernel = l; instructions = p.instructions + 1; last = last; stage = InCall; settings = p.settings })
+      pub begun_sound : IsSound (record { kernel = l; instructions = p.instructions + 1; last = last; stage = InCall; rules = p.rules })
       begun_sound = sound_moved p (at InCall) sound refl has.0.call (Instr t) allowed_here begun_to
 
 -- the delivery of a fault's signal is begun
-module _ (p old : Engine) (is : p ≡ old) (t sig : ℕ) (sound : IsSound p) (rest : IsIdle p.kernel) (untold : p.kernel.tables.report ≡ nothing_told) (over : (view order p.kernel.tables).over ≡ None)
-    (next : next_delivery (view order p.kernel.tables) ≡ Some (record { thread = t; signal = sig })) (l : KernelState Queue) (begun : IsBegun order p.kernel l (deliver (view order p.kernel.tables))) where
+module _ (p old : Engine) (is : p ≡ old) (t sig : ℕ) (sound : IsSound p) (rest : IsIdle p.kernel) (untold : p.kernel.tables.report ≡ nothing_told) (prompt : IsPrompt (view order p.kernel.tables))
+    (over : (view order p.kernel.tables).over ≡ None) (next : next_delivery (view order p.kernel.tables) ≡ Some (Gives t sig t)) (pending : (view order p.kernel.tables).pending ≡ one_pending t sig)
+    (l : KernelState Queue) (begun : IsBegun order p.kernel l (deliver (view order p.kernel.tables))) where
   abbrev delivering : Engine
-  delivering = record { kernel = l; instructions = p.instructions; last = p.last; stage = InCall; settings = p.settings }
+  delivering = record { kernel = l; instructions = p.instructions; last = p.last; stage = InCall; rules = p.rules }
 
   here : (moment_of p).state ≡ view order p.kernel.tables
   here = moment_state p rest
 
-  can_deliver : Allowed p.settings (moment_of p) Deliver
-  can_deliver = (ap (λ (s : State). s.over) here ∙ over, record { thread = t; signal = sig }, ap next_delivery here ∙ next)
+  can_deliver : Allowed p.rules (moment_of p) Deliver
+  can_deliver = (ap (λ (s : State). s.over) here ∙ over, Gives t sig t, ap next_delivery here ∙ next)
 
-  head_is : (deliver (view order p.kernel.tables)).report.head ≡ DeliverHead t sig ((view order p.kernel.tables).pending t sig)
-  head_is = ap (λ d. (delivered (view order p.kernel.tables) d).report.head) next
+  ready : ((view order p.kernel.tables).threads t).standing ≡ Ready
+  ready =
+      let one = pends_once (view order p.kernel.tables).pending t sig pending in
+      ready_is ((view order p.kernel.tables).threads t).standing (prompt t sig (omega (arith, one)))
+
+  head_is : (deliver (view order p.kernel.tables)).report.head ≡ DeliverHead t sig 1
+  head_is = sym (ap (λ (g : Outcome). g.report.head) (told_delivery (view order p.kernel.tables) t sig (view_plain order p.kernel.tables) ready next pending))
 
   has : HasBegun order p.kernel l (deliver (view order p.kernel.tables))
   has =
       has_begun order p.kernel l (deliver (view order p.kernel.tables)) untold begun
-      (λ h. absurd (let e : Quiet ≡ DeliverHead t sig ((view order p.kernel.tables).pending t sig) = sym h ∙ head_is in cc))
+      (λ h. absurd (let e : Quiet ≡ DeliverHead t sig 1 = sym h ∙ head_is in cc))
 
-  delivers_to : moment_of delivering ≡ moved (moment_of p) Deliver
+  delivers_to : moment_of delivering ≡ moved p.rules (moment_of p) Deliver
   delivers_to =
       let state = state_is p delivering p.kernel refl Deliver _ has (ap deliver (sym here)) can_deliver refl in
-      λ i. record { state = state i; instructions = p.instructions; last = p.last }
+      λ i. record { state = state i; instructions = p.instructions; last = p.last; taken = nothing_taken }
 
-  pub delivers : Advances old (Begun p.last) (record { kernel = l; instructions = p.instructions; last = p.last; stage = InCall; settings = p.settings })
+  pub delivers : Advances old (Begun p.last) (record { kernel = l; instructions = p.instructions; last = p.last; stage = InCall; rules = p.rules })
   delivers =
-      let counts = delivery_counts (moment_of p) p.last _ t sig ((view order p.kernel.tables).pending t sig) refl head_is in
+      let counts = delivery_counts p.rules (moment_of p) p.last _ t sig 1 refl head_is in
       (subst (λ x. BeginsMove x delivering) is (begins p delivering p.kernel refl Deliver _ has (ap deliver (sym here)) can_deliver refl delivers_to counts), ap (λ (x : Engine). x.last) is)
 
-  pub delivers_sound : IsSound (record { kernel = l; instructions = p.instructions; last = p.last; stage = InCall; settings = p.settings })
+  pub delivers_sound : IsSound (record { kernel = l; instructions = p.instructions; last = p.last; stage = InCall; rules = p.rules })
   delivers_sound = sound_moved p delivering sound refl has.call Deliver can_deliver delivers_to

@@ -1,5 +1,7 @@
 -- What one instruction of the thread in place comes to.
 use Rattle.std.proofs.Common.{◌≡◌, ◌≤◌, ◌∙◌, ap, sym, refl, subst, arith, ℕ, true, false, List, [], ◌∷◌, Option, Some, None, length, drop}
+use Rattle.std.specs.Prelude.{if◌then◌else◌}
+use Rattle.std.specs.Prelude.{Bool}
 use Rattle.thread_base.specs.Orders.{is_nil}
 use Rattle.posix_model.specs.declared.Report.{Report}
 use Rattle.trace_text.specs.Output.{IsReadable}
@@ -11,10 +13,11 @@ use Rattle.rv_exec.specs.declared.Event.{Event}
 use Rattle.rv_exec.specs.declared.Event.TheVariants.{Next, Ecall, Fault, Return}
 use Rattle.rv_exec.specs.declared.Special.{Special}
 use Rattle.rv_exec.specs.declared.Special.TheVariants.{Handler, Cleanup, Start}
-use Rattle.posix_model.specs.State.{State, Thread, Registers, Phase, Normal, Leaving}
+use Rattle.posix_model.specs.State.{State, Thread, Registers, Frame, Phase, Normal, Leaving, is_of_handler}
 use Rattle.posix_model.specs.Scheduling.{edge, eff, chosen}
-use Rattle.posix_model.specs.Changes.{Outcome, set_registers}
-use Rattle.posix_model.specs.Instructions.{instruction, by_effect, returned, segmentation_fault}
+use Rattle.posix_model.specs.Changes.{Outcome, begun, set_registers, set_thread}
+use Rattle.posix_model.specs.Deliveries.{faulted}
+use Rattle.posix_model.specs.Instructions.{instruction, by_effect, returned, handler_returned, cleanup_returned, start_returned, told_return, segmentation_fault}
 use Rattle.posix_model.specs.Reports.{nothing_told}
 use Rattle.posix_model.specs.Calls.{call, call_row}
 use Rattle.posix_model.specs.declared.Arguments.{Arguments}
@@ -102,12 +105,34 @@ fault_main sig = record { told = λ h. absurd (cc); kind = refl }
 made_main : (which : Special) → IsMain (Ret which)
 made_main which = record { told = λ h. absurd (cc); kind = refl }
 
-pub return_main : (s : State) (t : ℕ) (which : Special) (phase : Phase) → IsMain (returned s t which phase).report.head
-return_main s t Handler phase = fault_main segmentation_fault
-return_main s t Cleanup Normal = fault_main segmentation_fault
-return_main s t Cleanup (Leaving value) = made_main Cleanup
-return_main s t Start Normal = made_main Start
-return_main s t Start (Leaving value) = fault_main segmentation_fault
+by_test : (b : Bool) (x y : Outcome) → IsMain x.report.head → IsMain y.report.head → IsMain (if b then x else y).report.head
+by_test true x y first second = first
+by_test false x y first second = second
+
+handler_main : (s : State) (t : ℕ) (frames : List Frame) → IsMain (handler_returned s t frames).report.head
+handler_main s t [] = fault_main segmentation_fault
+handler_main s t (frame ∷ frames) =
+    by_test (is_of_handler frame.kind)
+    (told_return t Handler (begun (set_thread s t (record (s.threads t) { registers = frame.registers; mask = frame.mask; frames = frames }))))
+    (faulted s t segmentation_fault) (made_main Handler) (fault_main segmentation_fault)
+
+cleanup_main : (s : State) (t : ℕ) (frames : List Frame) (phase : Phase) → IsMain (cleanup_returned s t frames phase).report.head
+cleanup_main s t (frame ∷ frames) phase =
+    by_test (is_of_handler frame.kind) (faulted s t segmentation_fault)
+    (told_return t Cleanup (begun (set_thread s t (record (s.threads t) { registers = frame.registers; frames = frames }))))
+    (fault_main segmentation_fault) (made_main Cleanup)
+cleanup_main s t [] Normal = fault_main segmentation_fault
+cleanup_main s t [] (Leaving value rounds next) = made_main Cleanup
+
+start_main : (s : State) (t : ℕ) (frames : List Frame) (phase : Phase) → IsMain (start_returned s t frames phase).report.head
+start_main s t (frame ∷ frames) phase = fault_main segmentation_fault
+start_main s t [] Normal = made_main Start
+start_main s t [] (Leaving value rounds next) = fault_main segmentation_fault
+
+pub return_main : (s : State) (t : ℕ) (which : Special) → IsMain (returned s t which).report.head
+return_main s t Handler = handler_main s t (s.threads t).frames
+return_main s t Cleanup = cleanup_main s t (s.threads t).frames (s.threads t).phase
+return_main s t Start = start_main s t (s.threads t).frames (s.threads t).phase
 
 -- what is left of a few changes are a few, and of some is some
 few_remaining : (xs : List Change) (i : ℕ) → length xs ≤ 512 → length (drop i xs) ≤ 512

@@ -3,17 +3,19 @@ use Rattle.std.proofs.Common.{◌≡◌, ◌∙◌, ap, sym, refl, subst, ℕ, �
 use Rattle.std.specs.Result.{IsErr}
 use Rattle.replay_io.specs.Writing.{WritesWhole, WritesFront}
 use Rattle.replay_io.proofs.WritingLemmas.{writes_nothing, whole_then_whole, whole_then_front, front_of_more}
-use Rattle.posix_model.specs.Runs.{Moment, Allowed, IsRun, Ends, make, moved, after}
+use Rattle.posix_model.specs.Runs.{Rules, Moment, Allowed, IsRun, Ends, make, moved, after}
+use Rattle.journal_text.specs.Valid.{IsJournal}
+use Rattle.posix_model.specs.Good.{IsGood}
 use Rattle.posix_model.specs.Lines.{lines}
 use Rattle.posix_model.specs.Trace.{text, move_text, switch_line, end_text}
-use Rattle.posix_model.specs.declared.Settings.{Settings}
 use Rattle.posix_model.specs.declared.Move.{Move}
 use Rattle.posix_model.specs.declared.Ending.{Ending}
 use Rattle.posix_model.specs.declared.Head.{Head}
 use Rattle.posix_model.specs.declared.Head.TheVariants.{Quiet}
 use Rattle.posix_model.specs.declared.Report.{Report}
-use Rattle.posix_model.proofs.TraceLemmas.{IsRun-append, after-append, text-append, no_switch, not_over, moves_left, moves_fall}
-use Rattle.posix_model.proofs.RunLaws.{whole_of_part}
+use Rattle.posix_model.proofs.TraceLemmas.{IsRun-append, after-append, text-append, no_switch, moves_left, moves_fall, moves_few}
+use Rattle.posix_model.proofs.GoodMoves.{goodness}
+use Rattle.posix_model.proofs.RunLaws.{run_falls, whole_of_part}
 use Rattle.trace_text.specs.Counting.{no_counts, plus, counted, counts, told_of, told_by}
 use Rattle.trace_text.specs.declared.tally.Counts.{Counts}
 use Rattle.process_engine.specs.Engine.{Engine, owed_of, moment_of, position_of, telling_of}
@@ -25,73 +27,75 @@ use Rattle.process_engine.specs.declared.stage.Advance.TheVariants.{Plain, Switc
 use Rattle.process_engine.proofs.CountLemmas.{plus_none, none_plus, counts-append, told_nothing, all_instructions, things, few}
 
 -- no move
-pub makes_none : (settings : Settings) (now : Moment) → Makes settings now now no_counts []
-makes_none settings now = record { moves = []; run = tt; leads = refl; tells = refl; text_is = refl }
+pub makes_none : (rules : Rules) (now : Moment) → Makes rules now now no_counts []
+makes_none rules now = record { moves = []; run = tt; leads = refl; tells = refl; text_is = refl }
 
 -- the same by other words
-makes_as : {settings : Settings} {old new : Moment} (told others : Counts) (trace other : List ℕ) → Makes settings old new told trace → others ≡ told → other ≡ trace → Makes settings old new others other
+makes_as : {rules : Rules} {old new : Moment} (told others : Counts) (trace other : List ℕ) → Makes rules old new told trace → others ≡ told → other ≡ trace → Makes rules old new others other
 makes_as told others trace other m e f = record { moves = m.moves; run = m.run; leads = m.leads; tells = e ∙ m.tells; text_is = f ∙ m.text_is }
 
 -- some moves, and then some more
-module _ (settings : Settings) (old mid new : Moment) (told more : Counts) (trace rest : List ℕ) (m : Makes settings old mid told trace) (n : Makes settings mid new more rest) where
-  pub makes_then : Makes settings old new (plus told more) (trace ++ rest)
+module _ (rules : Rules) (old mid new : Moment) (told more : Counts) (trace rest : List ℕ) (m : Makes rules old mid told trace) (n : Makes rules mid new more rest) where
+  pub makes_then : Makes rules old new (plus told more) (trace ++ rest)
   makes_then = record {
     moves = m.moves ++ n.moves;
-    run = IsRun-append settings old m.moves n.moves m.run (subst (λ x. IsRun settings x n.moves) m.leads n.run);
-    leads = n.leads ∙ ap (λ x. after x n.moves) m.leads ∙ sym (after-append old m.moves n.moves);
+    run = IsRun-append rules old m.moves n.moves m.run (subst (λ x. IsRun rules x n.moves) m.leads n.run);
+    leads = n.leads ∙ ap (λ x. after rules x n.moves) m.leads ∙ sym (after-append rules old m.moves n.moves);
     tells =
         (λ i. plus (m.tells i) (n.tells i))
-        ∙ ap (λ x. told_of (plus (counts old m.moves) (counts x n.moves))) m.leads
-        ∙ ap told_of (sym (counts-append old m.moves n.moves));
-    text_is = (λ i. m.text_is i ++ n.text_is i) ∙ ap (λ x. text old m.moves ++ text x n.moves) m.leads ∙ sym (text-append old m.moves n.moves);
+        ∙ ap (λ x. told_of (plus (counts rules old m.moves) (counts rules x n.moves))) m.leads
+        ∙ ap told_of (sym (counts-append rules old m.moves n.moves));
+    text_is = (λ i. m.text_is i ++ n.text_is i) ∙ ap (λ x. text rules old m.moves ++ text rules x n.moves) m.leads ∙ sym (text-append rules old m.moves n.moves);
   }
 
 -- one move, by its report
-move_made : (settings : Settings) (now new : Moment) (move : Move) (told : Counts) → Allowed settings now move → new ≡ moved now move → told_of (counted now move) ≡ told
-    → MakesSome settings now new told (switch_line now.last new.last ++ lines (make now.state move).report new.state.memory)
-move_made settings now new move told allowed leads adds = record {
+move_made : (rules : Rules) (now new : Moment) (move : Move) (told : Counts) → Allowed rules now move → new ≡ moved rules now move → told_of (counted rules now move) ≡ told
+    → MakesSome rules now new told (switch_line now.last new.last ++ lines (make rules now.state move).report new.state.memory)
+move_made rules now new move told allowed leads adds = record {
   makes = record {
     moves = move ∷ [];
     run = (allowed, tt);
     leads = leads;
-    tells = sym (ap told_of (plus_none (counted now move)) ∙ adds);
+    tells = sym (ap told_of (plus_none (counted rules now move)) ∙ adds);
     text_is =
-        ap (λ (m : Moment). switch_line now.last m.last ++ lines (make now.state move).report m.state.memory) leads
-        ∙ sym (append-nil (move_text now move));
+        ap (λ (m : Moment). switch_line now.last m.last ++ lines (make rules now.state move).report m.state.memory) leads
+        ∙ sym (append-nil (move_text rules now move));
   };
   some = omega arith;
 }
 
 -- moves without text, and then one of the engine
-module _ (settings : Settings) (p m q : Engine) (on : Makes settings (moment_of p) (moment_of m) no_counts []) (same : settings ≡ m.settings) where
-  module _ (head : Head) (h : MakesMove m q head) (report : Report) (tells : report ≡ (make (moment_of m).state h.move).report) where
-    one_more : MakesSome settings (moment_of m) (moment_of q) (told_by m.last q.last head) (switch_line m.last q.last ++ lines report (moment_of q).state.memory)
+module _ (rules : Rules) (p m q : Engine) (on : Makes rules (moment_of p) (moment_of m) no_counts []) (same : rules ≡ m.rules) where
+  module _ (head : Head) (h : MakesMove m q head) (report : Report) (tells : report ≡ (make m.rules (moment_of m).state h.move).report) where
+    one_more : MakesSome rules (moment_of m) (moment_of q) (told_by m.last q.last head) (switch_line m.last q.last ++ lines report (moment_of q).state.memory)
     one_more =
-        subst (λ r. MakesSome settings (moment_of m) (moment_of q) (told_by m.last q.last head) (switch_line m.last q.last ++ lines r (moment_of q).state.memory)) (sym tells)
-        (move_made settings (moment_of m) (moment_of q) h.move (told_by m.last q.last head) (subst (λ s. Allowed s (moment_of m) h.move) (sym same) h.allowed) h.leads h.counts)
+        let text : Report → List ℕ = λ r. switch_line m.last q.last ++ lines r (moment_of q).state.memory in
+        subst (λ x. MakesSome x (moment_of m) (moment_of q) (told_by m.last q.last head) (text report)) (sym same)
+        (subst (λ r. MakesSome m.rules (moment_of m) (moment_of q) (told_by m.last q.last head) (text r)) (sym tells)
+        (move_made m.rules (moment_of m) (moment_of q) h.move (told_by m.last q.last head) h.allowed h.leads h.counts))
 
     after_silence : (before : Option ℕ) (trace : List ℕ) → before ≡ m.last → trace ≡ switch_line m.last q.last ++ lines report (moment_of q).state.memory
-        → MakesSome settings (moment_of p) (moment_of q) (told_by before q.last head) trace
+        → MakesSome rules (moment_of p) (moment_of q) (told_by before q.last head) trace
     unfolding makes_as makes_then
     after_silence before trace by is =
-        let all = makes_then settings (moment_of p) (moment_of m) (moment_of q) no_counts _ [] _ on one_more.makes in
+        let all = makes_then rules (moment_of p) (moment_of m) (moment_of q) no_counts _ [] _ on one_more.makes in
         let some = one_more.some in
         record {
           makes = makes_as _ _ _ _ all (ap (λ (o : Option ℕ). told_by o q.last head) by ∙ sym (none_plus (told_by m.last q.last head))) is;
           some = rw length-append (omega (arith, some));
         }
 
-  silent_text : (h : MakesPlain m q) → switch_line m.last q.last ≡ switch_line m.last q.last ++ lines (make (moment_of m).state h.makes.move).report (moment_of q).state.memory
+  silent_text : (h : MakesPlain m q) → switch_line m.last q.last ≡ switch_line m.last q.last ++ lines (make m.rules (moment_of m).state h.makes.move).report (moment_of q).state.memory
   silent_text h = sym (ap (λ t. switch_line m.last q.last ++ t) h.silent ∙ append-nil (switch_line m.last q.last))
 
   -- a plain instruction of the same thread writes no text, too
-  pub plain_too : Advances m Plain q → Makes settings (moment_of p) (moment_of q) no_counts []
+  pub plain_too : Advances m Plain q → Makes rules (moment_of p) (moment_of q) no_counts []
   plain_too h =
       let one = (after_silence Quiet h.0.makes _ refl m.last [] refl (sym (ap (switch_line m.last) h.1 ∙ no_switch m.last) ∙ silent_text h.0)).makes in
       makes_as _ _ _ _ one (sym (told_nothing m.last q.last h.1)) refl
 
   -- what is no plain instruction may write some
-  pub proceeds : (advance : Advance) → (position_of m).telling ≡ None → (advance ≡ Plain → ⊥) → Advances m advance q → Proceeds settings p advance q
+  pub proceeds : (advance : Advance) → (position_of m).telling ≡ None → (advance ≡ Plain → ⊥) → Advances m advance q → Proceeds rules p advance q
   proceeds Plain rest other h = absurd (other refl)
   proceeds (Switched before) rest other h =
       (after_silence Quiet h.0.makes _ refl before (switch_line before q.last) h.1 (ap (λ (o : Option ℕ). switch_line o q.last) h.1 ∙ silent_text h.0), h.0.stage)
@@ -99,10 +103,10 @@ module _ (settings : Settings) (p m q : Engine) (on : Makes settings (moment_of 
       (after_silence _ h.0.makes _ h.0.told before _ h.1 (ap (λ (o : Option ℕ). switch_line o q.last ++ lines (owed_of q).report (moment_of q).state.memory) h.1), h.0.stage)
   proceeds (End ending) rest other h =
       let here = subst (λ s. Ends s (moment_of m) ending) (sym same) h.ends in
-      subst (λ x. Makes settings (moment_of p) (moment_of x) no_counts [] × Ends settings (moment_of x) ending × ((position_of x).telling ≡ None)) (sym h.same) (on, here, rest)
+      subst (λ x. Makes rules (moment_of p) (moment_of x) no_counts [] × Ends rules (moment_of x) ending × ((position_of x).telling ≡ None)) (sym h.same) (on, here, rest)
 
 -- a move whose small changes are all made tells the same
-pub finished : (s t : Settings) (old mid new : Engine) (before : Option ℕ) (report : Report) → s ≡ t → Proceeds s old (Begun before) mid → Completes (position_of mid) report (position_of new)
+pub finished : (s t : Rules) (old mid new : Engine) (before : Option ℕ) (report : Report) → s ≡ t → Proceeds s old (Begun before) mid → Completes (position_of mid) report (position_of new)
     → MakesTold t (moment_of old) before report (moment_of new)
 finished s t old mid new before report same on done =
     let is : Some (owed_of mid).report ≡ Some report = sym (ap (λ stage. telling_of stage (owed_of mid).report) on.1) ∙ done.before in
@@ -112,27 +116,27 @@ finished s t old mid new before report same on done =
     (subst (λ n. MakesTold s (moment_of old) before (owed_of mid).report n) (sym done.now) on.0))
 
 -- a run from a start to now, whose text was written, and what was told of it
-pub record SoFar (settings : Settings) (start now : Moment) (tally : Counts) (a b : Option (List ℕ)) (f g : ℕ) : Type 0 where
+pub record SoFar (rules : Rules) (start now : Moment) (tally : Counts) (a b : Option (List ℕ)) (f g : ℕ) : Type 0 where
   pub trace : List ℕ
-  pub makes : Makes settings start now tally trace
+  pub makes : Makes rules start now tally trace
   pub written : WritesWhole a b f g trace
 
-pub none_so_far : (settings : Settings) (start : Moment) (a : Option (List ℕ)) (f : ℕ) → SoFar settings start start no_counts a a f f
-none_so_far settings start a f = record { trace = []; makes = makes_none settings start; written = writes_nothing a f }
+pub none_so_far : (rules : Rules) (start : Moment) (a : Option (List ℕ)) (f : ℕ) → SoFar rules start start no_counts a a f f
+none_so_far rules start a f = record { trace = []; makes = makes_none rules start; written = writes_nothing a f }
 
-module _ (settings : Settings) (start now new : Moment) (tally more : Counts) (a b c : Option (List ℕ)) (f g h : ℕ) (all : List ℕ)
-    (so_far : SoFar settings start now tally a b f g) (next : Makes settings now new more all) where
+module _ (rules : Rules) (start now new : Moment) (tally more : Counts) (a b c : Option (List ℕ)) (f g h : ℕ) (all : List ℕ)
+    (so_far : SoFar rules start now tally a b f g) (next : Makes rules now new more all) where
   -- the text of more moves is written, or the sink fails
-  pub more_so_far : (sum : Counts) → sum ≡ plus tally more → WritesWhole b c g h all → SoFar settings start new sum a c f h
+  pub more_so_far : (sum : Counts) → sum ≡ plus tally more → WritesWhole b c g h all → SoFar rules start new sum a c f h
   more_so_far sum is w = record {
     trace = so_far.trace ++ all;
-    makes = makes_as _ _ _ _ (makes_then settings start now new tally more so_far.trace all so_far.makes next) is refl;
+    makes = makes_as _ _ _ _ (makes_then rules start now new tally more so_far.trace all so_far.makes next) is refl;
     written = whole_then_whole a b c f g h so_far.trace all (so_far.trace ++ all) so_far.written w refl;
   }
 
-  pub more_fails : WritesFront b c g h all → RunsPart settings start a c f h
+  pub more_fails : WritesFront b c g h all → RunsPart rules start a c f h
   more_fails w =
-      let both = makes_then settings start now new tally more so_far.trace all so_far.makes next in
+      let both = makes_then rules start now new tally more so_far.trace all so_far.makes next in
       record {
         trace = so_far.trace ++ all;
         part = record { moves = both.moves; run = both.run; told = inl both.text_is };
@@ -140,30 +144,30 @@ module _ (settings : Settings) (start now new : Moment) (tally more : Counts) (a
       }
 
 -- after some moves without text
-module _ (settings : Settings) (start mid now : Moment) (tally : Counts) (a b : Option (List ℕ)) (f g : ℕ) (so_far : SoFar settings start mid tally a b f g) (on : Makes settings mid now no_counts []) where
-  both : Makes settings start now tally so_far.trace
-  both = makes_as _ _ _ _ (makes_then settings start mid now tally no_counts so_far.trace [] so_far.makes on) (sym (plus_none tally)) (sym (append-nil so_far.trace))
+module _ (rules : Rules) (start mid now : Moment) (tally : Counts) (a b : Option (List ℕ)) (f g : ℕ) (so_far : SoFar rules start mid tally a b f g) (on : Makes rules mid now no_counts []) where
+  both : Makes rules start now tally so_far.trace
+  both = makes_as _ _ _ _ (makes_then rules start mid now tally no_counts so_far.trace [] so_far.makes on) (sym (plus_none tally)) (sym (append-nil so_far.trace))
 
-  counted_all : (counts start both.moves).instructions + start.instructions ≡ now.instructions
-  counted_all = all_instructions start both.moves ∙ ap (λ (m : Moment). m.instructions) (sym both.leads)
+  counted_all : (counts rules start both.moves).instructions + start.instructions ≡ now.instructions
+  counted_all = all_instructions rules start both.moves ∙ ap (λ (m : Moment). m.instructions) (sym both.leads)
 
   pub made_grows : start.instructions ≤ now.instructions
   made_grows = let counted = counted_all in omega (arith, counted)
 
   -- the run has ended
-  module _ (ending : Ending) (ends : Ends settings now ending) (c : Option (List ℕ)) (h : ℕ) (end : List ℕ) (is : end ≡ end_text now ending) where
-    ends_here : Ends settings (after start both.moves) ending
-    ends_here = subst (λ n. Ends settings n ending) both.leads ends
+  module _ (ending : Ending) (ends : Ends rules now ending) (c : Option (List ℕ)) (h : ℕ) (end : List ℕ) (is : end ≡ end_text now ending) where
+    ends_here : Ends rules (after rules start both.moves) ending
+    ends_here = subst (λ n. Ends rules n ending) both.leads ends
 
-    all_text : so_far.trace ++ end ≡ text start both.moves ++ end_text (after start both.moves) ending
+    all_text : so_far.trace ++ end ≡ text rules start both.moves ++ end_text (after rules start both.moves) ending
     all_text = ap (λ t. so_far.trace ++ t) is ∙ (λ i. both.text_is i ++ end_text (both.leads i) ending)
 
     -- the end is written
     pub ended_whole : (done : Counts) → done ≡ record tally { instructions = now.instructions - start.instructions } → WritesWhole b c g h end
-        → RunsWhole settings start (record { ending = ending; counts = done }) a c f h
+        → RunsWhole rules start (record { ending = ending; counts = done }) a c f h
     ended_whole done told w =
         let counted = counted_all in
-        let instructions : now.instructions - start.instructions ≡ (counts start both.moves).instructions = omega (arith, counted) in
+        let instructions : now.instructions - start.instructions ≡ (counts rules start both.moves).instructions = omega (arith, counted) in
         record {
           trace = so_far.trace ++ end;
           whole = record { moves = both.moves; run = both.run; ends = ends_here; told = all_text };
@@ -172,7 +176,7 @@ module _ (settings : Settings) (start mid now : Moment) (tally : Counts) (a b : 
         }
 
     -- the end fails
-    pub ended_fails : WritesFront b c g h end → RunsPart settings start a c f h
+    pub ended_fails : WritesFront b c g h end → RunsPart rules start a c f h
     ended_fails w = record {
       trace = so_far.trace ++ end;
       part = record { moves = both.moves; run = both.run; told = inr (ending, ends_here, all_text) };
@@ -180,45 +184,42 @@ module _ (settings : Settings) (start mid now : Moment) (tally : Counts) (a b : 
     }
 
 -- what the loop says at its exits
-pub runs_err : {E : Type 0} (settings : Settings) (start : Moment) (r : Result Done E) (a b : Option (List ℕ)) (f g : ℕ) → IsErr r → RunsPart settings start a b f g → Goes settings start r a b f g
-runs_err settings start (Ok u) a b f g h p = absurd (let e : false ≡ true = h in cc)
-runs_err settings start (Err e) a b f g h p = p
+pub runs_err : {E : Type 0} (rules : Rules) (start : Moment) (r : Result Done E) (a b : Option (List ℕ)) (f g : ℕ) → IsErr r → RunsPart rules start a b f g → Goes rules start r a b f g
+runs_err rules start (Ok u) a b f g h p = absurd (let e : false ≡ true = h in cc)
+runs_err rules start (Err e) a b f g h p = p
 
--- moves leave fewer that may follow
-run_falls : (settings : Settings) (now : Moment) (moves : List Move) → IsRun settings now moves → length moves + moves_left settings (after now moves) ≤ moves_left settings now
-run_falls settings now [] run = omega arith
-run_falls settings now (move ∷ moves) run =
-    let one = moves_fall settings now move run.0 in
-    let rest = run_falls settings (moved now move) moves run.1 in
-    omega (arith, one, rest)
-
-makes_fall : (settings : Settings) (old new : Moment) (told : Counts) (trace : List ℕ) (m : Makes settings old new told trace) → length m.moves + moves_left settings new ≤ moves_left settings old
-makes_fall settings old new told trace m = subst (λ n. length m.moves + moves_left settings n ≤ moves_left settings old) (sym m.leads) (run_falls settings old m.moves m.run)
-
-pub falls : (settings : Settings) (old new : Moment) (told : Counts) (trace : List ℕ) → MakesSome settings old new told trace → moves_left settings new < moves_left settings old
-falls settings old new told trace m =
-    let all = makes_fall settings old new told trace m.makes in
+-- moves leave fewer that may follow, and lead from a good state to a good one
+pub falls : (rules : Rules) (old new : Moment) (told : Counts) (trace : List ℕ) → IsJournal rules.journal → IsGood old.state → MakesSome rules old new told trace
+    → moves_left rules new < moves_left rules old
+falls rules old new told trace journal good m =
+    let all = subst (λ n. length m.makes.moves + moves_left rules n ≤ moves_left rules old) (sym m.makes.leads) (run_falls rules old m.makes.moves journal good m.makes.run) in
     let some = m.some in
     omega (arith, all, some)
 
--- few moves may follow, and so few things are told
-one_over : (o : Option Ending) → not_over o ≤ 1
-one_over None = omega arith
-one_over (Some ending) = omega arith
+pub stays_good : (rules : Rules) (old new : Moment) (told : Counts) (trace : List ℕ) → IsGood old.state → Makes rules old new told trace → IsGood new.state
+stays_good rules old new told trace good m = subst (λ (n : Moment). IsGood n.state) (sym m.leads) (goodness.2 rules old m.moves good m.run)
 
-pub tally_few : (settings : Settings) (start now : Moment) (tally : Counts) (a b : Option (List ℕ)) (f g : ℕ) → settings.budget ≤ 1000000000 → SoFar settings start now tally a b f g
-    → things tally ≤ 6000000003
-tally_few settings start now tally a b f g limit so_far =
-    let each = few start so_far.makes.moves in
-    let all = run_falls settings start so_far.makes.moves so_far.makes.run in
-    let one = one_over start.state.over in
+-- a plain instruction leaves fewer
+pub plain_falls : (rules : Rules) (m q : Engine) → IsJournal rules.journal → IsGood (moment_of m).state → rules ≡ m.rules → MakesPlain m q → moves_left rules (moment_of q) < moves_left rules (moment_of m)
+plain_falls rules m q journal good same h =
+    let fall = moves_fall m.rules (moment_of m) h.makes.move (subst (λ (r : Rules). IsJournal r.journal) same journal) good h.makes.allowed in
+    subst (λ r. moves_left r (moment_of q) < moves_left r (moment_of m)) (sym same)
+    (subst (λ n. moves_left m.rules n < moves_left m.rules (moment_of m)) (sym h.makes.leads) fall)
+
+-- few moves may follow, and so few things are told
+pub tally_few : (rules : Rules) (start now : Moment) (tally : Counts) (a b : Option (List ℕ)) (f g : ℕ) → IsJournal rules.journal → IsGood start.state
+    → rules.settings.budget ≤ 1000000000 → SoFar rules start now tally a b f g → things tally ≤ 9000012006615
+tally_few rules start now tally a b f g journal good limit so_far =
+    let each = few rules start so_far.makes.moves in
+    let all = run_falls rules start so_far.makes.moves journal good so_far.makes.run in
+    let most = moves_few rules start journal limit in
     let told = ap things so_far.makes.tells in
-    omega (arith, each, all, one, limit, told)
+    omega (arith, each, all, most, told)
 
 -- what was written of a run so far is a front of the text of a whole run
-pub part_front : (settings : Settings) (start : Moment) (a b : Option (List ℕ)) (f g : ℕ) → start.instructions ≤ settings.budget → RunsPart settings start a b f g → RunsFront settings start a b f g
-part_front settings start a b f g within r =
-    let whole = whole_of_part settings start r.trace within r.part in
+pub part_front : (rules : Rules) (start : Moment) (a b : Option (List ℕ)) (f g : ℕ) → IsJournal rules.journal → IsGood start.state → start.instructions ≤ rules.settings.budget → RunsPart rules start a b f g → RunsFront rules start a b f g
+part_front rules start a b f g journal good within r =
+    let whole = whole_of_part rules start r.trace journal good within r.part in
     record {
       ending = whole.0;
       trace = r.trace ++ whole.1;

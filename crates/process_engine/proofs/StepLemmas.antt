@@ -3,6 +3,7 @@ use Rattle.std.proofs.Common.{◌≡◌, ◌∙◌, ap, sym, refl, subst, arith,
 use Rattle.ready_queues.specs.Queue.{Queue}
 use Rattle.posix_model.specs.State.{State}
 use Rattle.posix_model.specs.Changes.{Outcome}
+use Rattle.posix_model.specs.Journals.{nothing_taken}
 use Rattle.posix_model.specs.declared.Report.{Report}
 use Rattle.trace_text.specs.Output.{IsReadable}
 use Rattle.kernel_state.specs.View.{view}
@@ -24,18 +25,18 @@ module _ (p : Engine) (k : KernelState Queue) (sound : IsSound p) (calling : p.s
   -- all that was left of the move was made
   module _ (report : Report) (state : view order k.tables ≡ (owed_by order p.kernel).state) (tells : report ≡ (owed_by order p.kernel).report) (idle : IsIdle k) where
     abbrev done : Engine
-    done = record { kernel = k; instructions = p.instructions; last = p.last; stage = Paused; settings = p.settings }
+    done = record { kernel = k; instructions = p.instructions; last = p.last; stage = Paused; rules = p.rules }
 
     same_state : (moment_of done).state ≡ (moment_of p).state
     same_state = moment_state done idle ∙ state ∙ sym (owed_state p)
 
     finish_now : moment_of done ≡ moment_of p
-    finish_now = λ i. record { state = same_state i; instructions = p.instructions; last = p.last }
+    finish_now = λ i. record { state = same_state i; instructions = p.instructions; last = p.last; taken = nothing_taken }
 
-    pub finish_sound : IsSound (record { kernel = k; instructions = p.instructions; last = p.last; stage = Paused; settings = p.settings })
+    pub finish_sound : IsSound (record { kernel = k; instructions = p.instructions; last = p.last; stage = Paused; rules = p.rules })
     finish_sound = sound_same p done sound refl idle finish_now
 
-    pub completes : Completes (position_of p) report (position_of (record { kernel = k; instructions = p.instructions; last = p.last; stage = Paused; settings = p.settings }))
+    pub completes : Completes (position_of p) report (position_of (record { kernel = k; instructions = p.instructions; last = p.last; stage = Paused; rules = p.rules }))
     unfolding owed_of
     completes = record {
       now = finish_now;
@@ -51,16 +52,16 @@ module _ (p : Engine) (k : KernelState Queue) (sound : IsSound p) (calling : p.s
   -- one small change was made, and more are left
   module _ (step : MakesOne order p.kernel k) (small : IsSmall (view order p.kernel.tables) (view order k.tables)) where
     abbrev onward : Engine
-    onward = record { kernel = k; instructions = p.instructions; last = p.last; stage = p.stage; settings = p.settings }
+    onward = record { kernel = k; instructions = p.instructions; last = p.last; stage = p.stage; rules = p.rules }
 
     owed_same : owed_of onward ≡ owed_of p
     unfolding owed_of
     owed_same = step.owed
 
     same_now : moment_of onward ≡ moment_of p
-    same_now = λ i. record { state = (owed_same i).state; instructions = p.instructions; last = p.last }
+    same_now = λ i. record { state = (owed_same i).state; instructions = p.instructions; last = p.last; taken = nothing_taken }
 
-    pub step_sound : IsSound (record { kernel = k; instructions = p.instructions; last = p.last; stage = p.stage; settings = p.settings })
+    pub step_sound : IsSound (record { kernel = k; instructions = p.instructions; last = p.last; stage = p.stage; rules = p.rules })
     step_sound =
         let before = stands_at p InCall sound calling in
         let call : IsInCall order k = record {
@@ -69,7 +70,7 @@ module _ (p : Engine) (k : KernelState Queue) (sound : IsSound p) (calling : p.s
         } in
         sound_same p onward sound refl (subst (Stands order k p.last) (sym calling) call) same_now
 
-    pub leaves : Leaves (position_of p) (position_of (record { kernel = k; instructions = p.instructions; last = p.last; stage = p.stage; settings = p.settings }))
+    pub leaves : Leaves (position_of p) (position_of (record { kernel = k; instructions = p.instructions; last = p.last; stage = p.stage; rules = p.rules }))
     leaves = record {
       now = same_now;
       report = (owed_of p).report;

@@ -3,10 +3,9 @@ use Rattle.std.specs.Prelude.{ℕ, ◌≡◌, ◌≤◌, Bool, true, false, List
 use Rattle.posix_model.specs.Changes.{Outcome}
 use Rattle.posix_model.specs.Instructions.{instruction}
 use Rattle.posix_model.specs.Reports.{nothing_told}
-use Rattle.posix_model.specs.Runs.{Moment, Allowed, IsRun, Ends, make, moved, after}
+use Rattle.posix_model.specs.Runs.{Rules, Moment, Allowed, IsRun, Ends, make, moved, after}
 use Rattle.posix_model.specs.Trace.{text, switch_line}
 use Rattle.posix_model.specs.Lines.{lines}
-use Rattle.posix_model.specs.declared.Settings.{Settings}
 use Rattle.posix_model.specs.declared.Move.{Move}
 use Rattle.posix_model.specs.declared.Ending.{Ending}
 use Rattle.posix_model.specs.declared.Head.{Head}
@@ -51,14 +50,14 @@ Instructs order k false q = BeginsInstruction order k q (instruction (view order
 -- a move was made, or begun, that has its turn, with what it counts beside its instruction
 pub record MakesMove (p q : Engine) (head : Head) : Type 0 where
   pub move : Move
-  pub allowed : Allowed p.settings (moment_of p) move
-  pub leads : moment_of q ≡ moved (moment_of p) move
-  pub counts : told_of (counted (moment_of p) move) ≡ added_by p.last q.last head
+  pub allowed : Allowed p.rules (moment_of p) move
+  pub leads : moment_of q ≡ moved p.rules (moment_of p) move
+  pub counts : told_of (counted p.rules (moment_of p) move) ≡ added_by p.last q.last head
 
 -- a move was made that has no lines
 pub record MakesPlain (p q : Engine) : Type 0 where
   pub makes : MakesMove p q Quiet
-  pub silent : lines (make (moment_of p).state makes.move).report (moment_of q).state.memory ≡ []
+  pub silent : lines (make p.rules (moment_of p).state makes.move).report (moment_of q).state.memory ≡ []
   pub stage : q.stage ≡ Going
   pub none : (position_of q).remaining ≡ 0
   pub shown : (position_of q).shown ≡ (moment_of q).state
@@ -66,7 +65,7 @@ pub record MakesPlain (p q : Engine) : Type 0 where
 -- a move was begun that has a main line, and 512 small changes at most
 pub record BeginsMove (p q : Engine) : Type 0 where
   pub makes : MakesMove p q (owed_of q).report.head
-  pub told : (owed_of q).report ≡ (make (moment_of p).state makes.move).report
+  pub told : (owed_of q).report ≡ (make p.rules (moment_of p).state makes.move).report
   pub main : (owed_of q).report.head ≡ Quiet → ⊥
   pub stage : q.stage ≡ InCall
   pub some : 1 ≤ (position_of q).remaining
@@ -75,7 +74,7 @@ pub record BeginsMove (p q : Engine) : Type 0 where
 
 -- the run has ended here
 pub record EndsHere (p q : Engine) (ending : Ending) : Type 0 where
-  pub ends : Ends p.settings (moment_of p) ending
+  pub ends : Ends p.rules (moment_of p) ending
   pub same : q ≡ p
 
 -- a plain instruction was made by the thread of the last one, or by any; a move was begun; or the run has ended. It is
@@ -87,28 +86,28 @@ Advances p (Begun before) q = BeginsMove p q × (before ≡ p.last)
 Advances p (End ending) q = EndsHere p q ending
 
 -- some moves were made, with what was told of them and their text
-pub record Makes (settings : Settings) (old new : Moment) (told : Counts) (trace : List ℕ) : Type 0 where
+pub record Makes (rules : Rules) (old new : Moment) (told : Counts) (trace : List ℕ) : Type 0 where
   pub moves : List Move
-  pub run : IsRun settings old moves
-  pub leads : new ≡ after old moves
-  pub tells : told ≡ told_of (counts old moves)
-  pub text_is : trace ≡ text old moves
+  pub run : IsRun rules old moves
+  pub leads : new ≡ after rules old moves
+  pub tells : told ≡ told_of (counts rules old moves)
+  pub text_is : trace ≡ text rules old moves
 
 -- the same, and one move at least was made
-pub record MakesSome (settings : Settings) (old new : Moment) (told : Counts) (trace : List ℕ) : Type 0 where
-  pub makes : Makes settings old new told trace
+pub record MakesSome (rules : Rules) (old new : Moment) (told : Counts) (trace : List ℕ) : Type 0 where
+  pub makes : Makes rules old new told trace
   pub some : 1 ≤ length makes.moves
 
 -- moves were made that write no text, and then one that is told by its report; by whom the last instruction before was made
-abbrev pub MakesTold : Settings → Moment → Option ℕ → Report → Moment → Type 0
-MakesTold settings old before report new =
-    MakesSome settings old new (added_by before new.last report.head) (switch_line before new.last ++ lines report new.state.memory)
+abbrev pub MakesTold : Rules → Moment → Option ℕ → Report → Moment → Type 0
+MakesTold rules old before report new =
+    MakesSome rules old new (added_by before new.last report.head) (switch_line before new.last ++ lines report new.state.memory)
 
 -- moves were made that write no text, and then one more, which may write some, or the run has ended
-abbrev pub Proceeds : Settings → Engine → Advance → Engine → Type 0
-Proceeds settings p Plain q = ⊥
-Proceeds settings p (Switched before) q =
-    MakesSome settings (moment_of p) (moment_of q) (added_by before q.last Quiet) (switch_line before q.last) × (q.stage ≡ Going)
-Proceeds settings p (Begun before) q = MakesTold settings (moment_of p) before (owed_of q).report (moment_of q) × (q.stage ≡ InCall)
-Proceeds settings p (End ending) q =
-    Makes settings (moment_of p) (moment_of q) no_counts [] × Ends settings (moment_of q) ending × ((position_of q).telling ≡ None)
+abbrev pub Proceeds : Rules → Engine → Advance → Engine → Type 0
+Proceeds rules p Plain q = ⊥
+Proceeds rules p (Switched before) q =
+    MakesSome rules (moment_of p) (moment_of q) (added_by before q.last Quiet) (switch_line before q.last) × (q.stage ≡ Going)
+Proceeds rules p (Begun before) q = MakesTold rules (moment_of p) before (owed_of q).report (moment_of q) × (q.stage ≡ InCall)
+Proceeds rules p (End ending) q =
+    Makes rules (moment_of p) (moment_of q) no_counts [] × Ends rules (moment_of q) ending × ((position_of q).telling ≡ None)

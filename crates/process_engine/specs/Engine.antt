@@ -1,12 +1,15 @@
 -- A process as clauses see it, the run so far that it shows, and what holds of it.
 use Rattle.std.specs.Prelude.{ℕ, ◌≡◌, ◌≤◌, List, length, Option, Some, None}
+use Rattle.journal_text.specs.Contents.{empty}
 use Rattle.ready_queues.specs.Queue.{Queue}
 use Rattle.posix_model.specs.State.{State, none_pending}
 use Rattle.posix_model.specs.Scheduling.{chosen}
 use Rattle.posix_model.specs.Changes.{Outcome}
-use Rattle.posix_model.specs.Runs.{Moment}
-use Rattle.posix_model.specs.declared.Report.{Report}
+use Rattle.posix_model.specs.Runs.{Rules, Moment}
+use Rattle.posix_model.specs.Good.{IsGood}
+use Rattle.posix_model.specs.Journals.{nothing_taken}
 use Rattle.posix_model.specs.declared.Settings.{Settings}
+use Rattle.posix_model.specs.declared.Report.{Report}
 use Rattle.trace_text.specs.Output.{IsReadable}
 use Rattle.kernel_state.specs.View.{view}
 use Rattle.kernel_state.specs.Kernels.{KernelState, remaining, IsIdle, owed_by}
@@ -14,13 +17,17 @@ use Rattle.kernel_state.specs.Moves.{InProgress}
 use Rattle.process_engine.specs.declared.stage.Stage.{Stage}
 use Rattle.process_engine.specs.declared.stage.Stage.TheVariants.{Going, Paused, InCall}
 
--- the kernel, how many instructions were made and by whom the last, the stage of the process, and the settings
+-- the kernel, how many instructions were made and by whom the last, the stage of the process, and the rules of its run
 pub record Engine : Type 0 where
   pub kernel : KernelState Queue
   pub instructions : ℕ
   pub last : Option ℕ
   pub stage : Stage
-  pub settings : Settings
+  pub rules : Rules
+
+-- the rules under which a process runs yet: its settings, and the journal without an entry
+abbrev pub rules_of : Settings → Rules
+rules_of settings = record { settings = settings; journal = empty }
 
 -- the ready list of a process
 abbrev pub order : Queue → List ℕ
@@ -32,7 +39,7 @@ owed_of p = owed_by order p.kernel
 
 -- the run so far, with the move in progress
 abbrev pub moment_of : Engine → Moment
-moment_of p = record { state = (owed_of p).state; instructions = p.instructions; last = p.last }
+moment_of p = record { state = (owed_of p).state; instructions = p.instructions; last = p.last; taken = nothing_taken }
 
 -- where a process is: the run so far with the move in progress, what is still to be told of that move, how many small
 -- changes of it are left, and the state that the tables show
@@ -74,8 +81,10 @@ Stands order k last Going = IsIdle k × HasTurn order k × (last ≡ Some k.tabl
 Stands order k last Paused = IsIdle k
 Stands order k last InCall = IsInCall order k
 
--- what holds of every process
+-- what holds of every process: it is within its budget, its journal has no entry, and the state of its run is good
 pub record IsSound (p : Engine) : Type 0 where
-  pub within : p.instructions ≤ p.settings.budget
-  pub limit : p.settings.budget ≤ 1000000000
+  pub within : p.instructions ≤ p.rules.settings.budget
+  pub limit : p.rules.settings.budget ≤ 1000000000
+  pub journal : p.rules.journal ≡ empty
+  pub good : IsGood (owed_of p).state
   pub stands : Stands order p.kernel p.last p.stage

@@ -2,10 +2,9 @@
 use Rattle.std.specs.Prelude.{ℕ, ◌≡◌, ◌≤◌, ◌+◌, ◌⊎◌, List, [], Option, Some, None, Result, Ok, Err}
 use Rattle.replay_io.specs.Writing.{WritesWhole, WritesFront}
 use Rattle.trace_text.specs.Output.{IsReadable}
-use Rattle.posix_model.specs.Runs.{Moment, Allowed, Ends, make, moved}
+use Rattle.posix_model.specs.Runs.{Rules, Moment, Allowed, Ends, make, moved}
 use Rattle.posix_model.specs.Trace.{IsWholeText, IsText}
 use Rattle.posix_model.specs.Lines.{lines}
-use Rattle.posix_model.specs.declared.Settings.{Settings}
 use Rattle.posix_model.specs.declared.Ending.{Ending}
 use Rattle.posix_model.specs.declared.Move.{Move}
 use Rattle.posix_model.specs.declared.Head.TheVariants.{Quiet as QuietHead}
@@ -25,12 +24,12 @@ Tells report old new =
     ⊎ ((new.telling ≡ Some report) × (report.head ≡ QuietHead → ⊥) × (1 ≤ new.remaining) × (new.remaining ≤ 512) × (new.shown ≡ old.shown))
 
 -- one move is made that is allowed, with what is to be told of it; none was in progress
-pub record Moves (settings : Settings) (old new : Position) : Type 0 where
+pub record Moves (rules : Rules) (old new : Position) : Type 0 where
   pub at_rest : old.telling ≡ None
   pub move : Move
-  pub allowed : Allowed settings old.now move
-  pub leads : new.now ≡ moved old.now move
-  pub tells : Tells (make old.now.state move).report old new
+  pub allowed : Allowed rules old.now move
+  pub leads : new.now ≡ moved rules old.now move
+  pub tells : Tells (make rules old.now.state move).report old new
 
 -- one small change of the move in progress is made and is not the last: the run and what is to be told of the move stay
 pub record Leaves (old new : Position) : Type 0 where
@@ -58,45 +57,45 @@ pub record CompletesLast (old : Position) (report : Report) (new : Position) : T
   pub small : IsSmall old.shown new.shown
 
 -- the run has ended, and nothing changes
-pub record Stops (settings : Settings) (old : Position) (ending : Ending) (new : Position) : Type 0 where
+pub record Stops (rules : Rules) (old : Position) (ending : Ending) (new : Position) : Type 0 where
   pub at_rest : old.telling ≡ None
-  pub ends : Ends settings old.now ending
+  pub ends : Ends rules old.now ending
   pub same : new ≡ old
 
 -- one turn makes or begins one move that is allowed, or makes one small change of the move in progress, or tells the
 -- ending: Made
 -- comes exactly with the last small change of a move, with its report, and Ended exactly where the run has ended
-abbrev pub IsTurn : Settings → Position → Turn → Position → Type 0
-IsTurn settings old Quiet new = Moves settings old new ⊎ Leaves old new
-IsTurn settings old (MadeTurn report) new = CompletesLast old report new
-IsTurn settings old (Ended ending) new = Stops settings old ending new
+abbrev pub IsTurn : Rules → Position → Turn → Position → Type 0
+IsTurn rules old Quiet new = Moves rules old new ⊎ Leaves old new
+IsTurn rules old (MadeTurn report) new = CompletesLast old report new
+IsTurn rules old (Ended ending) new = Stops rules old ending new
 
 -- the whole text of one ended run was written, and its counts are told
-pub record RunsWhole (settings : Settings) (start : Moment) (done : Done) (before after : Option (List ℕ)) (faults_before faults_after : ℕ) : Type 0 where
+pub record RunsWhole (rules : Rules) (start : Moment) (done : Done) (before after : Option (List ℕ)) (faults_before faults_after : ℕ) : Type 0 where
   pub trace : List ℕ
-  pub whole : IsWholeText settings start done.ending trace
-  pub counted : done.counts ≡ counts start whole.moves
+  pub whole : IsWholeText rules start done.ending trace
+  pub counted : done.counts ≡ counts rules start whole.moves
   pub written : WritesWhole before after faults_before faults_after trace
 
 -- a front of the text of a run so far was written, and then the sink failed
-pub record RunsPart (settings : Settings) (start : Moment) (before after : Option (List ℕ)) (faults_before faults_after : ℕ) : Type 0 where
+pub record RunsPart (rules : Rules) (start : Moment) (before after : Option (List ℕ)) (faults_before faults_after : ℕ) : Type 0 where
   pub trace : List ℕ
-  pub part : IsText settings start trace
+  pub part : IsText rules start trace
   pub written : WritesFront before after faults_before faults_after trace
 
 -- a front of the whole text of one ended run was written, and then the sink failed
-pub record RunsFront (settings : Settings) (start : Moment) (before after : Option (List ℕ)) (faults_before faults_after : ℕ) : Type 0 where
+pub record RunsFront (rules : Rules) (start : Moment) (before after : Option (List ℕ)) (faults_before faults_after : ℕ) : Type 0 where
   pub ending : Ending
   pub trace : List ℕ
-  pub whole : IsWholeText settings start ending trace
+  pub whole : IsWholeText rules start ending trace
   pub written : WritesFront before after faults_before faults_after trace
 
 -- a run from a start as far as it went: whole at Ok, with its ending, and a front of one so far where the sink failed
-abbrev pub Goes : {E : Type 0} → Settings → Moment → Result Done E → Option (List ℕ) → Option (List ℕ) → ℕ → ℕ → Type 0
-Goes settings start (Ok done) before after faults_before faults_after = RunsWhole settings start done before after faults_before faults_after
-Goes settings start (Err error) before after faults_before faults_after = RunsPart settings start before after faults_before faults_after
+abbrev pub Goes : {E : Type 0} → Rules → Moment → Result Done E → Option (List ℕ) → Option (List ℕ) → ℕ → ℕ → Type 0
+Goes rules start (Ok done) before after faults_before faults_after = RunsWhole rules start done before after faults_before faults_after
+Goes rules start (Err error) before after faults_before faults_after = RunsPart rules start before after faults_before faults_after
 
 -- a run from a start: whole at Ok, with its ending, and a front of the text of one where the sink failed
-abbrev pub Runs : {E : Type 0} → Settings → Moment → Result Done E → Option (List ℕ) → Option (List ℕ) → ℕ → ℕ → Type 0
-Runs settings start (Ok done) before after faults_before faults_after = RunsWhole settings start done before after faults_before faults_after
-Runs settings start (Err error) before after faults_before faults_after = RunsFront settings start before after faults_before faults_after
+abbrev pub Runs : {E : Type 0} → Rules → Moment → Result Done E → Option (List ℕ) → Option (List ℕ) → ℕ → ℕ → Type 0
+Runs rules start (Ok done) before after faults_before faults_after = RunsWhole rules start done before after faults_before faults_after
+Runs rules start (Err error) before after faults_before faults_after = RunsFront rules start before after faults_before faults_after

@@ -6,7 +6,7 @@ ghost use Rattle.posix_model.specs.State.{none_pending};
 ghost use Rattle.posix_model.specs.Scheduling.{chosen};
 ghost use Rattle.replay_io.specs.Writing.{Writes};
 ghost use Rattle.trace_text.specs.Output.{IsReadable};
-ghost use Rattle.process_engine.specs.Engine.{Engine, position_of, moment_of, order};
+ghost use Rattle.process_engine.specs.Engine.{Engine, IsSound, rules_of, position_of, moment_of, order};
 ghost use Rattle.process_engine.specs.Turns.{Completes, IsTurn, Goes, Runs};
 ghost use Rattle.process_engine.specs.Advancing.{Advances, Proceeds};
 ghost use Rattle.kernel_state.specs.View.{view};
@@ -39,13 +39,13 @@ pub struct Process {
 }
 
 impl Model for Process {
-    ghost use Rattle.process_engine.specs.Engine.{Engine, IsSound};
+    ghost use Rattle.process_engine.specs.Engine.{Engine, IsSound, rules_of};
 
     ghost Value = { Engine };
 
-    ghost view = { λ p. record { kernel = p.kernel; instructions = p.instructions; last = p.last; stage = p.stage; settings = p.settings } };
+    ghost view = { λ p. record { kernel = p.kernel; instructions = p.instructions; last = p.last; stage = p.stage; rules = rules_of p.settings } };
 
-    ghost invariant = { λ p. IsSound (record { kernel = p.kernel; instructions = p.instructions; last = p.last; stage = p.stage; settings = p.settings }) };
+    ghost invariant = { λ p. IsSound (record { kernel = p.kernel; instructions = p.instructions; last = p.last; stage = p.stage; rules = rules_of p.settings }) };
 }
 
 impl Process {
@@ -61,7 +61,7 @@ impl Process {
         requires quantum { (1 ≤ settings.quantum) × (settings.quantum ≤ 1000) }
         ensures start { IfOk result (λ p. moment_of p ≡ start mem entry.0) }
         ensures at_rest { IfOk result (λ p. (position_of p).telling ≡ None) }
-        ensures settings { IfOk result (λ p. p.settings ≡ settings) }
+        ensures rules { IfOk result (λ p. p.rules ≡ rules_of settings) }
     {
         Ok(Process {
             kernel: Kernel::new(alloc, PlainReady::new(alloc)?, mem, entry, settings)?,
@@ -72,12 +72,19 @@ impl Process {
         })
     }
 
+    /// What always holds of a process, told to clauses.
+    pub(crate) fn sound(&self)
+        ensures { IsSound self.now }
+    {
+        let _instructions = &self.instructions;
+    }
+
     /// Makes the instruction of the thread in place, which has its turn, or begins its move.
     #[inline(always)]
     fn instruction(&mut self) -> Advance
         requires { self.old.stage ≡ Stage.Going }
         ensures advances { Advances self.old result self.new }
-        ensures settings { self.new.settings ≡ self.old.settings }
+        ensures rules { self.new.rules ≡ self.old.rules }
     {
         if self.instructions == self.settings.budget {
             return Advance::End(Ending::Budget);
@@ -98,7 +105,7 @@ impl Process {
         requires chosen { chosen (view order self.old.kernel.tables) ≡ Some t }
         ensures advances { Advances self.old result self.new }
         ensures switched { result ≡ Advance.Plain → ⊥ }
-        ensures settings { self.new.settings ≡ self.old.settings }
+        ensures rules { self.new.rules ≡ self.old.rules }
     {
         if self.instructions == self.settings.budget {
             return Advance::End(Ending::Budget);
@@ -121,7 +128,7 @@ impl Process {
         requires { self.old.stage ≡ Stage.Paused }
         ensures advances { Advances self.old result self.new }
         ensures switched { result ≡ Advance.Plain → ⊥ }
-        ensures settings { self.new.settings ≡ self.old.settings }
+        ensures rules { self.new.rules ≡ self.old.rules }
     {
         match self.kernel.tables().over() {
             Some(ending) => return Advance::End(ending),
@@ -146,7 +153,7 @@ impl Process {
     fn advance(&mut self) -> Advance
         requires { (position_of self.old).telling ≡ None }
         ensures advances { Advances self.old result self.new }
-        ensures settings { self.new.settings ≡ self.old.settings }
+        ensures rules { self.new.rules ≡ self.old.rules }
     {
         match self.stage {
             Stage::Going => self.instruction(),
@@ -159,9 +166,10 @@ impl Process {
     #[inline(always)]
     fn run_turn(&mut self) -> Advance
         requires { self.old.stage ≡ Stage.Going }
-        ensures proceeds { Proceeds self.old.settings self.old result self.new }
-        ensures settings { self.new.settings ≡ self.old.settings }
+        ensures proceeds { Proceeds self.old.rules self.old result self.new }
+        ensures rules { self.new.rules ≡ self.old.rules }
     {
+        self.sound();
         loop {
             match self.instruction() {
                 Advance::Plain => {}
@@ -174,8 +182,8 @@ impl Process {
     #[inline(always)]
     fn proceed(&mut self) -> Advance
         requires { (position_of self.old).telling ≡ None }
-        ensures proceeds { Proceeds self.old.settings self.old result self.new }
-        ensures settings { self.new.settings ≡ self.old.settings }
+        ensures proceeds { Proceeds self.old.rules self.old result self.new }
+        ensures rules { self.new.rules ≡ self.old.rules }
     {
         match self.stage {
             Stage::Going => self.run_turn(),
@@ -187,8 +195,8 @@ impl Process {
     /// Makes the next small change of the move in progress.
     fn step(&mut self) -> Turn
         requires { self.old.stage ≡ Stage.InCall }
-        ensures turn { IsTurn self.old.settings (position_of self.old) result (position_of self.new) }
-        ensures settings { self.new.settings ≡ self.old.settings }
+        ensures turn { IsTurn self.old.rules (position_of self.old) result (position_of self.new) }
+        ensures rules { self.new.rules ≡ self.old.rules }
     {
         match self.kernel.step() {
             Stepped::More => Turn::Quiet,
@@ -203,8 +211,8 @@ impl Process {
     /// ending. Made comes exactly with the last change of a move, with its report; Ended comes exactly where the run has ended; Quiet
     /// exactly where the turn completed no move with lines and told no ending.
     pub fn turn(&mut self) -> Turn
-        ensures turn { IsTurn self.old.settings (position_of self.old) result (position_of self.new) }
-        ensures settings { self.new.settings ≡ self.old.settings }
+        ensures turn { IsTurn self.old.rules (position_of self.old) result (position_of self.new) }
+        ensures rules { self.new.rules ≡ self.old.rules }
     {
         match self.stage {
             Stage::InCall => self.step(),
@@ -219,7 +227,7 @@ impl Process {
     fn finish(&mut self) -> Report
         requires { self.old.stage ≡ Stage.InCall }
         ensures completes { Completes (position_of self.old) result (position_of self.new) }
-        ensures settings { self.new.settings ≡ self.old.settings }
+        ensures rules { self.new.rules ≡ self.old.rules }
     {
         let report = self.kernel.finish();
         self.stage = Stage::Paused;
@@ -273,10 +281,10 @@ impl Process {
 
     /// Makes the rest of the run and writes its text.
     fn run_on<O: Sink>(&mut self, out: &mut O, mode: Mode) -> Result<Done, SinkFailed>
-        requires at_rest { (position_of self.old).telling ≡ None }
-        requires limit { self.old.settings.budget ≤ 1000000000 }
-        ensures { Goes self.old.settings (moment_of self.old) result (O.written out.old) (O.written out.new) (O.faults out.old) (O.faults out.new) }
+        requires { (position_of self.old).telling ≡ None }
+        ensures { Goes self.old.rules (moment_of self.old) result (O.written out.old) (O.written out.new) (O.faults out.old) (O.faults out.new) }
     {
+        self.sound();
         let first = self.instructions;
         let mut told = Counts::none();
         loop {
@@ -308,10 +316,9 @@ impl Process {
     /// rose in this call, and then a front of the whole text of one ended run was appended. It takes no memory.
     pub fn run<O: Sink>(mut self, out: &mut O, mode: Mode) -> Result<Done, WriteFault>
         requires { (position_of self).telling ≡ None }
-        ensures { Runs self.settings (moment_of self) result (O.written out.old) (O.written out.new) (O.faults out.old) (O.faults out.new) }
+        ensures { Runs self.rules (moment_of self) result (O.written out.old) (O.written out.new) (O.faults out.old) (O.faults out.new) }
     {
-        // opened, so that its count is known to be within the budget
-        let _instructions = &self.instructions;
+        self.sound();
         match self.run_on(out, mode) {
             Ok(done) => Ok(done),
             Err(SinkFailed) => Err(WriteFault),

@@ -15,10 +15,11 @@ use thread_base::Tid;
 impl Process {
     /// Makes the rest of the run, and tells how it ended. Nothing is written, and no memory is taken.
     pub fn run_to_end(&mut self) -> Ending
-        ensures ran { RunsToEnd self.old.settings (moment_of self.old) result (moment_of self.new) }
+        ensures ran { RunsToEnd self.old.rules (moment_of self.old) result (moment_of self.new) }
         ensures at_rest { (position_of self.new).telling ≡ None }
-        ensures settings { self.new.settings ≡ self.old.settings }
+        ensures rules { self.new.rules ≡ self.old.rules }
     {
+        self.sound();
         loop {
             match self.turn() {
                 Turn::Quiet => {}

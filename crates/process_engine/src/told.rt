@@ -53,7 +53,7 @@ pub(crate) fn with_move(
     after: &Option<Tid>,
     head: &Head,
 ) -> Counts
-    requires { told.calls + told.deliveries + told.switches ≤ 6000000003 }
+    requires { told.calls + told.deliveries + told.switches ≤ 9000012006615 }
     ensures { result ≡ plus told (told_by before.now after.now head.now) }
 {
     Counts {

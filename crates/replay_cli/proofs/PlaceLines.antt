@@ -2,11 +2,10 @@
 use Rattle.std.proofs.Common.{◌≡◌, ◌∙◌, ap, subst, ℕ, List, ◌++◌, append_assoc, Option, Some, None, IfSome}
 use Rattle.replay_io.specs.Writing.{WritesFront, AppendedFront}
 use Rattle.posix_model.specs.Laws.{IsWholeRun}
-use Rattle.posix_model.specs.Runs.{Moment}
-use Rattle.posix_model.specs.declared.Settings.{Settings}
+use Rattle.posix_model.specs.Runs.{Rules, Moment, after}
 use Rattle.posix_model.specs.declared.Ending.{Ending}
 use Rattle.process_engine.specs.Whole.{RunsToEnd}
-use Rattle.replay_cli.specs.Headline.{loaded, default_settings, IsStartOf}
+use Rattle.replay_cli.specs.Headline.{loaded, default_rules, IsStartOf}
 use Rattle.replay_cli.specs.Places.{places_text, TellsFrontOf}
 
 -- a piece after a line, and then more
@@ -14,15 +13,15 @@ pub joined : (line a b mid new : List ℕ) → mid ≡ line ++ a → new ≡ mid
 joined line a b mid new e f = f ∙ ap (λ (x : List ℕ). x ++ b) e ∙ append_assoc line a b
 
 -- a front of the text of a whole run's end was written
-pub tells_front : (image : Option (List ℕ)) (settings : Settings) (start now : Moment) (ending : Ending) (a b : Option (List ℕ)) (f g : ℕ)
-    → IfSome image (λ image. IsStartOf (loaded image) start) → settings ≡ default_settings → RunsToEnd settings start ending now
+pub tells_front : (image : Option (List ℕ)) (rules : Rules) (start now : Moment) (ending : Ending) (a b : Option (List ℕ)) (f g : ℕ)
+    → IfSome image (λ image. IsStartOf (loaded image) start) → rules ≡ default_rules → RunsToEnd rules start ending now
     → WritesFront a b f g (places_text now ending) → IfSome image (λ image. TellsFrontOf (loaded image) a b)
-tells_front None settings start now ending a b f g is same ran w = tt
-tells_front (Some image) settings start now ending a b f g is same ran w = record {
+tells_front None rules start now ending a b f g is same ran w = tt
+tells_front (Some image) rules start now ending a b f g is same ran w = record {
   start = start;
   of_image = is;
   moves = ran.moves;
   ending = ending;
   whole = subst (λ s. IsWholeRun s start ran.moves ending) same ran.whole;
-  told = subst (λ m. AppendedFront a b (places_text m ending)) ran.leads w.told;
+  told = subst (λ s. AppendedFront a b (places_text (after s start ran.moves) ending)) same (subst (λ m. AppendedFront a b (places_text m ending)) ran.leads w.told);
 }

@@ -1,9 +1,10 @@
 -- What a replay writes: the text of a run from the image.
 use Rattle.std.specs.Prelude.{ℕ, ◌≡◌, List, take, Option, None}
+use Rattle.journal_text.specs.Contents.{empty}
 use Rattle.elf_image.specs.Layout.{IsStart, segments_of, e_entry}
 use Rattle.elf_image.specs.Refusal.{first_refusal}
 use Rattle.replay_io.specs.Writing.{Appended, AppendedFront}
-use Rattle.posix_model.specs.Runs.{Moment}
+use Rattle.posix_model.specs.Runs.{Rules, Moment}
 use Rattle.posix_model.specs.Start as machine
 use Rattle.posix_model.specs.Trace.{IsWholeText}
 use Rattle.posix_model.specs.declared.Settings.{Settings}
@@ -22,6 +23,10 @@ memory_size = 4194304
 abbrev pub default_settings : Settings
 default_settings = record { budget = 1000000; quantum = 4 }
 
+-- the rules of every run yet: these settings, and the journal without an entry
+abbrev pub default_rules : Rules
+default_rules = record { settings = default_settings; journal = empty }
+
 -- a run at the start of the machine, over the memory of an accepted image
 pub record IsStartOf (image : List ℕ) (start : Moment) : Type 0 where
   pub accepted : first_refusal image memory_size ≡ None
@@ -35,7 +40,7 @@ pub record WritesRunOf (image : List ℕ) (before after : Option (List ℕ)) : T
   pub of_image : IsStartOf image start
   pub ending : Ending
   pub trace : List ℕ
-  pub whole : IsWholeText default_settings start ending trace
+  pub whole : IsWholeText default_rules start ending trace
   pub told : Appended before after trace
 
 -- a front of the text of one whole run from an image came after what was written before
@@ -44,5 +49,5 @@ pub record WritesFrontOf (image : List ℕ) (before after : Option (List ℕ)) :
   pub of_image : IsStartOf image start
   pub ending : Ending
   pub trace : List ℕ
-  pub whole : IsWholeText default_settings start ending trace
+  pub whole : IsWholeText default_rules start ending trace
   pub told : AppendedFront before after trace

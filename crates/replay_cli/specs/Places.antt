@@ -9,12 +9,12 @@ use Rattle.posix_model.specs.Lines.{number, hex_byte}
 use Rattle.posix_model.specs.Runs.{Moment, after}
 use Rattle.posix_model.specs.Trace.{end_text}
 use Rattle.posix_model.specs.declared.Wait.{Wait}
-use Rattle.posix_model.specs.declared.Wait.TheVariants.{Join, Mutex, Cond, Reacquire}
+use Rattle.posix_model.specs.declared.Wait.TheVariants.{Join, Mutex, Cond, Reacquire, Signal, Sleep, Read}
 use Rattle.posix_model.specs.declared.Ending.{Ending}
 use Rattle.posix_model.specs.declared.Ending.TheVariants.{Exit, Killed, Idle, Budget}
 use Rattle.posix_model.specs.declared.Move.{Move}
 use Rattle.replay_cli.specs.Addresses.{address_at}
-use Rattle.replay_cli.specs.Headline.{default_settings, IsStartOf}
+use Rattle.replay_cli.specs.Headline.{default_rules, IsStartOf}
 
 -- a blank, and a word in hexadecimal
 unfoldable pub hex_word : ℕ → List ℕ
@@ -27,11 +27,14 @@ wait_text (Join u) = codes " waits thread" ++ number u
 wait_text (Mutex m) = codes " waits mutex" ++ number m
 wait_text (Cond c m deadline count) = codes " waits condition" ++ number c ++ codes " mutex" ++ number m
 wait_text (Reacquire m reply count) = codes " waits mutex" ++ number m ++ codes " again"
+wait_text (Signal set) = codes " waits signal"
+wait_text (Sleep until) = codes " waits time" ++ number until
+wait_text (Read buffer size) = codes " waits input"
 
 -- that a thread is in its exit, with which value
 abbrev pub phase_text : Phase → List ℕ
 phase_text Normal = []
-phase_text (Leaving value) = codes " leaving" ++ number value
+phase_text (Leaving value rounds next) = codes " leaving" ++ number value
 
 -- what a thread is doing
 abbrev pub standing_text : Standing → Phase → List ℕ
@@ -85,8 +88,8 @@ pub record TellsPlacesOf (image : List ℕ) (was now : Option (List ℕ)) : Type
   pub of_image : IsStartOf image start
   pub moves : List Move
   pub ending : Ending
-  pub whole : IsWholeRun default_settings start moves ending
-  pub told : Appended was now (places_text (after start moves) ending)
+  pub whole : IsWholeRun default_rules start moves ending
+  pub told : Appended was now (places_text (after default_rules start moves) ending)
 
 -- a front of that came after what was written before
 pub record TellsFrontOf (image : List ℕ) (was now : Option (List ℕ)) : Type 0 where
@@ -94,5 +97,5 @@ pub record TellsFrontOf (image : List ℕ) (was now : Option (List ℕ)) : Type 
   pub of_image : IsStartOf image start
   pub moves : List Move
   pub ending : Ending
-  pub whole : IsWholeRun default_settings start moves ending
-  pub told : AppendedFront was now (places_text (after start moves) ending)
+  pub whole : IsWholeRun default_rules start moves ending
+  pub told : AppendedFront was now (places_text (after default_rules start moves) ending)

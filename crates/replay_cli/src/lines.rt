@@ -51,6 +51,12 @@ fn add_wait(line: &mut Line, wait: &Wait)
             line.number(u64::from(mutex));
             line.text(b" again");
         }
+        Wait::Signal(_) => line.text(b" waits signal"),
+        Wait::Sleep { until } => {
+            line.text(b" waits time");
+            line.number(until);
+        }
+        Wait::Read { .. } => line.text(b" waits input"),
     }
 }
 

@@ -6,7 +6,7 @@ ghost use Rattle.process_engine.specs.Engine.{moment_of, position_of};
 ghost use Rattle.replay_cli.specs.Words.{are_accepted, image_name, journal_name};
 ghost use Rattle.replay_cli.specs.Journal.{first_bad};
 ghost use Rattle.replay_cli.specs.Failures.{status_of};
-ghost use Rattle.replay_cli.specs.Headline.{loaded, memory_size, default_settings, IsStartOf, WritesRunOf, WritesFrontOf};
+ghost use Rattle.replay_cli.specs.Headline.{loaded, memory_size, default_rules, IsStartOf, WritesRunOf, WritesFrontOf};
 ghost use Rattle.replay_cli.specs.Causes.{IsImage, IsJournal, ImageCause, JournalCause, Cause, Tells, Fails, IsSmooth};
 
 use crate::accepted::are_accepted;
@@ -101,7 +101,7 @@ pub(crate) fn accept<F: Files>(
     ensures journal { OnOk result (IsJournal (F.content files.old (journal_name words.now))) }
     ensures start { IfOk result (λ p. IfSome (F.content files.old (image_name words.now)) (λ image. IsStartOf (loaded image) (moment_of p))) }
     ensures at_rest { IfOk result (λ p. (position_of p).telling ≡ None) }
-    ensures settings { IfOk result (λ p. p.settings ≡ default_settings) }
+    ensures rules { IfOk result (λ p. p.rules ≡ default_rules) }
     ensures cause { IfErr result (λ f. (a b : ℕ) → Cause words.now (F.content files.old) (F.faults files.old) (F.faults files.new) a b f) }
     ensures early { IfErr result (λ f. f ≢ Failure.Output) }
     ensures same { (n : List ℕ) → F.content files.new n ≡ F.content files.old n }

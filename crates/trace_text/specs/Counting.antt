@@ -1,6 +1,6 @@
 -- How much of each kind a run does (this project's own).
 use Rattle.std.specs.Prelude.{ℕ, ◌+◌, Bool, true, false, not, if◌then◌else◌, List, [], ◌∷◌, Option, Some, None}
-use Rattle.posix_model.specs.Runs.{Moment, make, moved}
+use Rattle.posix_model.specs.Runs.{Rules, Moment, make, moved}
 use Rattle.posix_model.specs.Trace.{is_last}
 use Rattle.posix_model.specs.declared.Move.{Move}
 use Rattle.posix_model.specs.declared.Move.TheVariants.{Instr, Arrive, Deliver}
@@ -42,21 +42,21 @@ is_switch before None = false
 is_switch before (Some t) = not (is_last t before)
 
 -- what one move adds
-abbrev pub counted : Moment → Move → Counts
-counted now (Instr tid) = record {
+abbrev pub counted : Rules → Moment → Move → Counts
+counted rules now (Instr tid) = record {
   instructions = 1;
-  calls = one_if (is_call (make now.state (Instr tid)).report.head);
+  calls = one_if (is_call (make rules now.state (Instr tid)).report.head);
   arrivals = 0;
   deliveries = 0;
-  switches = one_if (is_switch now.last (moved now (Instr tid)).last);
+  switches = one_if (is_switch now.last (moved rules now (Instr tid)).last);
 }
-counted now (Arrive first count at) = record no_counts { arrivals = 1 }
-counted now Deliver = record no_counts { deliveries = 1 }
+counted rules now (Arrive first count at) = record no_counts { arrivals = 1 }
+counted rules now Deliver = record no_counts { deliveries = 1 }
 
 -- what a list of moves did
-abbrev pub counts : Moment → List Move → Counts
-counts now [] = no_counts
-counts now (move ∷ moves) = plus (counted now move) (counts (moved now move) moves)
+abbrev pub counts : Rules → Moment → List Move → Counts
+counts rules now [] = no_counts
+counts rules now (move ∷ moves) = plus (counted rules now move) (counts rules (moved rules now move) moves)
 
 -- what was told of a run: all but the instructions
 abbrev pub told_of : Counts → Counts

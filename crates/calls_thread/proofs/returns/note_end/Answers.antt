@@ -10,6 +10,7 @@ use Rattle.kernel_state.specs.declared.change.ThreadChange.TheVariants.{Answer, 
 use Rattle.kernel_state.specs.declared.tables.Tables.{Tables}
 use Rattle.calls_thread.specs.Orphans.{with_orphans}
 use Rattle.calls_thread.proofs.EndLemmas.{can_answer, can_end, can_end_alone, ended_alone, ended_joined}
+use Rattle.kernel_state.proofs.ViewLemmas.{view_plain}
 use Rattle.calls_thread.proofs.returns.note_end.Goals as goal
 
 pub returns-in-None : goal.returns-in-None
@@ -19,7 +20,7 @@ returns-in-None g c =
     let s : State = view g.R.Ready.order k.tables in
     let nobody : joiner s t ≡ None = sym (c.joiner-joiner.ensures ∙ ap (λ (x : Tables _). joiner (view g.R.Ready.order x) t) c.tables.ensures.tables) ∙ c.in-None.is in
     subst (λ (g' : Outcome). HasNotedSome g.R.Ready.order k c.note_more.new.self g') (ended_alone s t c.args.value nobody)
-    (subst (NotesMore g.R.Ready.order c.note_orphans.new.k c.note_more.new.self) c.ended.ensures c.note_more.ensures.noted k (begun (with_orphans s t)) c.note_orphans.ensures.noted (can_end_alone s t c.args.value c.requires.listed c.requires.calm))
+    (subst (NotesMore g.R.Ready.order c.note_orphans.new.k c.note_more.new.self) c.ended.ensures c.note_more.ensures.noted k (begun (with_orphans s t)) c.note_orphans.ensures.noted (can_end_alone s t c.args.value c.requires.listed c.requires.calm (view_plain g.R.Ready.order k.tables).keys))
 
 pub returns-in-Some : goal.returns-in-Some
 returns-in-Some g c =
@@ -31,4 +32,4 @@ returns-in-Some g c =
     let answered : Outcome = change_by (OfThread u (Answer 0 c.args.value)) (begun (with_orphans s t)) in
     let first = c.note_more-in-Some.ensures.noted k (begun (with_orphans s t)) c.note_orphans.ensures.noted (can_answer s t u c.args.value c.requires.good c.requires.listed found) in
     subst (λ (g' : Outcome). HasNotedSome g.R.Ready.order k c.note_more-in-Some-2.new.self g') (ended_joined s t u c.args.value c.requires.good c.requires.listed found)
-    (subst (NotesMore g.R.Ready.order c.note_more-in-Some.new.self c.note_more-in-Some-2.new.self) c.ended-in-Some.ensures c.note_more-in-Some-2.ensures.noted k answered first.so_far (can_end s t u c.args.value c.requires.good c.requires.listed found c.requires.calm))
+    (subst (NotesMore g.R.Ready.order c.note_more-in-Some.new.self c.note_more-in-Some-2.new.self) c.ended-in-Some.ensures c.note_more-in-Some-2.ensures.noted k answered first.so_far (can_end s t u c.args.value c.requires.good c.requires.listed found c.requires.calm (view_plain g.R.Ready.order k.tables).keys))

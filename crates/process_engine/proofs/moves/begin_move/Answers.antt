@@ -21,4 +21,4 @@ pub returns-in-Return : goal.returns-in-Return
 returns-in-Return g c =
     let s = view g.R.Ready.order c.args.k.now.tables in
     let told = subst (λ e. HasExecuted s c.args.t e s) c.in-Return.is c.requires.event in
-    begun_by g.R.Ready.order c.args.k.now c.begin_return.new.k _ _ c.requires.untold c.begin_return.ensures (return_main s c.args.t c.in-Return.which _) (by_event s c.args.t (Returns _) told.0)
+    begun_by g.R.Ready.order c.args.k.now c.begin_return.new.k _ _ c.requires.untold c.begin_return.ensures (return_main s c.args.t c.in-Return.which) (by_event s c.args.t (Returns _) told.0)

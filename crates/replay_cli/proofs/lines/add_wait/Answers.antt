@@ -33,3 +33,11 @@ returns-in-Reacquire-clause-text c =
     (c.number-in-Reacquire.ensures.text ∙ ap (λ n. c.text-in-Reacquire.new.self ++ number n) c.from-in-Reacquire.ensures)
     c.text-in-Reacquire-2.ensures)
     ∙ sym (ap (λ w. c.args.line.now ++ wait_text w) c.in-Reacquire.is)
+
+pub returns-in-Sleep-clause-text : goal.returns-in-Sleep-clause-text
+returns-in-Sleep-clause-text c =
+    joined c.args.line.now (codes " waits time") (number c.in-Sleep.until) c.text-in-Sleep.new.self _ c.text-in-Sleep.ensures c.number-in-Sleep.ensures.text
+    ∙ sym (ap (λ w. c.args.line.now ++ wait_text w) c.in-Sleep.is)
+
+pub returns-in-Read-clause-text : goal.returns-in-Read-clause-text
+returns-in-Read-clause-text c = c.text-in-Read.ensures ∙ sym (ap (λ w. c.args.line.now ++ wait_text w) c.in-Read.is)

@@ -8,5 +8,5 @@ returns-in-Err-clause-cause g c = c.in-Err.ensures.cause (g.O.Sink.faults c.args
 
 pub returns-clause-front : goal.returns-clause-front
 returns-clause-front g c = λ same.
-    tells_front (g.F.Files.content c.args.files.now (image_name c.args.words.now)) c.in-Ok.process.settings (moment_of c.in-Ok.process) (moment_of c.run_to_end-ending.new.self)
-    c.run_to_end-ending.result _ _ _ _ c.in-Ok.ensures.start c.in-Ok.ensures.settings c.run_to_end-ending.ensures.ran c.in-Err-put_places.ensures
+    tells_front (g.F.Files.content c.args.files.now (image_name c.args.words.now)) c.in-Ok.process.rules (moment_of c.in-Ok.process) (moment_of c.run_to_end-ending.new.self)
+    c.run_to_end-ending.result _ _ _ _ c.in-Ok.ensures.start c.in-Ok.ensures.rules c.run_to_end-ending.ensures.ran c.in-Err-put_places.ensures

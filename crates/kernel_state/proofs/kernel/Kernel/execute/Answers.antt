@@ -10,7 +10,7 @@ execute-requires g c =
     let order = g.R.Ready.order in
     let idle = ap (λ (x : KernelState _). x.main) c.self.view_is ∙ c.requires.idle in
     let first = subst (λ (x : KernelState _). chosen (view order x.tables) ≡ Some x.tables.placed) (sym c.self.view_is) c.requires.chosen in
-    (chosen_listed _ _ (rests order g.R.Ready.prio _ c.self.invariant idle).0 first).0
+    (chosen_listed _ _ (rests order g.R.Ready.prio _ c.self.invariant idle).0.good first).0
 
 pub invariant_of-self : goal.invariant_of-self
 invariant_of-self g c =

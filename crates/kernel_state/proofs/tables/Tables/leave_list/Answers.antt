@@ -6,7 +6,7 @@ use Rattle.posix_model.specs.State.{State, Thread}
 use Rattle.posix_model.specs.Leaving.{over_with_last}
 use Rattle.kernel_state.specs.View.{view, with_ready}
 use Rattle.kernel_state.specs.Changing.{remains_of}
-use Rattle.kernel_state.proofs.ViewLemmas.{gone_calmly}
+use Rattle.kernel_state.proofs.ViewLemmas.{gone_calmly, view_plain}
 use Rattle.kernel_state.proofs.tables.Tables.leave_list.Goals as goal
 
 pub returns-clause-view : goal.returns-clause-view
@@ -17,7 +17,7 @@ returns-clause-view g c =
     ∙ ap over_with_last (
     c.leave.ensures.view
     ∙ ap (λ (x : State). set_thread x c.args.t (remains_of (x.threads c.args.t) c.args.value c.args.joined)) c.take_out.ensures.view
-    ∙ gone_calmly s c.args.t left c.requires.calm c.requires.unheld)
+    ∙ gone_calmly s c.args.t left c.requires.calm c.requires.unheld (view_plain g.R.Ready.order c.args.self.now).keys)
 
 pub leave-requires-clause-away : goal.leave-requires-clause-away
 leave-requires-clause-away g c =

@@ -1,5 +1,5 @@
 use Rattle.std.proofs.Common.{◌∙◌, ap, subst}
-use Rattle.process_engine.specs.Engine.{Engine, position_of}
+use Rattle.process_engine.specs.Engine.{rules_of, Engine, position_of}
 use Rattle.process_engine.specs.Turns.{Completes}
 use Rattle.process_engine.specs.declared.stage.Stage.TheVariants.{Paused, InCall}
 use Rattle.process_engine.specs.contracts.process.Process.{the_view}
@@ -20,6 +20,6 @@ pub returns-clause-completes : goal.returns-clause-completes
 returns-clause-completes c =
     let calling = ap (λ (x : Engine). x.stage) c.self.view_is ∙ c.requires in
     let all = c.finish-report.ensures in
-    let q : Engine = record { kernel = c.finish-report.new.self; instructions = c.self.inside.instructions; last = c.self.inside.last; stage = Paused; settings = c.self.inside.settings } in
+    let q : Engine = record { kernel = c.finish-report.new.self; instructions = c.self.inside.instructions; last = c.self.inside.last; stage = Paused; rules = rules_of c.self.inside.settings } in
     subst (λ x. Completes (position_of x) c.finish-report.result (position_of q)) c.self.view_is
     (completes (the_view c.self.inside) c.finish-report.new.self c.self.invariant calling c.finish-report.result all.state all.report all.idle)

@@ -9,7 +9,7 @@ pub returns-then-self-clause-advances : goal.returns-then-self-clause-advances
 returns-then-self-clause-advances c =
     let p = the_view c.self.inside in
     let going = ap (λ (x : Engine). x.stage) c.self.view_is ∙ c.requires in
-    is_spent p c.args.self.now _ c.self.view_is (going_turn p c.self.invariant going).0 c.if-self.true
+    is_spent p c.args.self.now _ c.self.view_is c.self.invariant (going_turn p c.self.invariant going).0 c.if-self.true
 
 pub make_instruction-requires : goal.make_instruction-requires
 make_instruction-requires c =

@@ -22,24 +22,26 @@ invariant_of-self c =
     let p = the_view c.self.inside in
     let rest = stands_at p Paused c.self.invariant (ap (λ (x : Engine). x.stage) c.self.view_is ∙ c.requires) in
     let over = ap (λ (t : Tables _). (view order t).over) (sym c.tables.ensures.tables) ∙ sym c.over.ensures ∙ c.in-None.is in
-    let untold = (rests order level_of _ c.tables.ensures.sound rest.main).1 in
+    let at_rest = rests order level_of _ c.tables.ensures.sound rest.main in
+    let pending = ap (λ (t : Tables _). (view order t).pending) (sym c.tables-2.ensures.tables) ∙ c.in-Some-fault.ensures.pending in
     let next = ap (λ (t : Tables _). next_delivery (view order t)) (sym c.tables-2.ensures.tables) ∙ c.in-Some-fault.ensures.next in
-    delivers_sound p c.args.self.now c.self.view_is c.in-Some-fault.fault.thread c.in-Some-fault.fault.signal c.self.invariant rest untold over next c.begin_delivery.new.self c.begin_delivery.ensures
+    delivers_sound p c.args.self.now c.self.view_is c.in-Some-fault.fault.thread c.in-Some-fault.fault.signal c.self.invariant rest at_rest.1 at_rest.0.prompt over next pending c.begin_delivery.new.self c.begin_delivery.ensures
 
 pub returns-in-Some-fault-clause-advances : goal.returns-in-Some-fault-clause-advances
 returns-in-Some-fault-clause-advances c =
     let p = the_view c.self.inside in
     let rest = stands_at p Paused c.self.invariant (ap (λ (x : Engine). x.stage) c.self.view_is ∙ c.requires) in
     let over = ap (λ (t : Tables _). (view order t).over) (sym c.tables.ensures.tables) ∙ sym c.over.ensures ∙ c.in-None.is in
-    let untold = (rests order level_of _ c.tables.ensures.sound rest.main).1 in
+    let at_rest = rests order level_of _ c.tables.ensures.sound rest.main in
+    let pending = ap (λ (t : Tables _). (view order t).pending) (sym c.tables-2.ensures.tables) ∙ c.in-Some-fault.ensures.pending in
     let next = ap (λ (t : Tables _). next_delivery (view order t)) (sym c.tables-2.ensures.tables) ∙ c.in-Some-fault.ensures.next in
-    delivers p c.args.self.now c.self.view_is c.in-Some-fault.fault.thread c.in-Some-fault.fault.signal c.self.invariant rest untold over next c.begin_delivery.new.self c.begin_delivery.ensures
+    delivers p c.args.self.now c.self.view_is c.in-Some-fault.fault.thread c.in-Some-fault.fault.signal c.self.invariant rest at_rest.1 at_rest.0.prompt over next pending c.begin_delivery.new.self c.begin_delivery.ensures
 
 pub returns-in-None-chosen-clause-advances : goal.returns-in-None-chosen-clause-advances
 returns-in-None-chosen-clause-advances c =
     let p = the_view c.self.inside in
     let rest = stands_at p Paused c.self.invariant (ap (λ (x : Engine). x.stage) c.self.view_is ∙ c.requires) in
-    is_idle p c.args.self.now c.self.view_is rest
+    is_idle p c.args.self.now c.self.view_is c.self.invariant rest
     (ap (λ (t : Tables _). (view order t).over) (sym c.tables.ensures.tables) ∙ sym c.over.ensures ∙ c.in-None.is)
     (ap (λ (t : Tables _). (view order t).pending) (sym c.tables-2.ensures.tables) ∙ c.in-None-fault.ensures.pending)
     (sym c.chosen.ensures ∙ c.in-None-chosen.is)

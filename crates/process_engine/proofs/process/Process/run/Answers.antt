@@ -1,9 +1,10 @@
 use Rattle.std.proofs.Common.{◌≤◌, subst}
 use Rattle.process_engine.specs.Engine.{Engine, moment_of}
+use Rattle.process_engine.proofs.EngineLemmas.{is_journal}
 use Rattle.process_engine.proofs.RunLemmas.{part_front}
 use Rattle.process_engine.proofs.process.Process.run.Goals as goal
 
 pub returns : goal.returns
 returns g c =
-    part_front c.args.self.settings (moment_of c.args.self) _ _ _ _
-    (subst (λ (p : Engine). p.instructions ≤ p.settings.budget) c.self.view_is c.self.invariant.within) c.in-Err.ensures
+    let sound = c.sound.ensures in
+    part_front c.args.self.rules (moment_of c.args.self) _ _ _ _ (is_journal c.args.self.rules sound.journal) sound.good sound.within c.in-Err.ensures

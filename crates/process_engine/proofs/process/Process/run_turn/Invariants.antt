@@ -8,7 +8,7 @@ use Rattle.process_engine.proofs.process.Process.run_turn.Given as goal
 
 abbrev pub invariant-loop-advance : goal.invariant-loop-advance
 invariant-loop-advance l =
-    (l.self.settings ≡ l.fn.self.settings) × (l.self.stage ≡ Going) × Makes l.fn.self.settings (moment_of l.fn.self) (moment_of l.self) no_counts []
+    (l.self.rules ≡ l.fn.self.rules) × (l.self.stage ≡ Going) × Makes l.fn.self.rules (moment_of l.fn.self) (moment_of l.self) no_counts []
 
 abbrev pub decreases-loop-advance : goal.decreases-loop-advance
-decreases-loop-advance l = moves_left l.self.settings (moment_of l.self)
+decreases-loop-advance l = moves_left l.fn.self.rules (moment_of l.self)

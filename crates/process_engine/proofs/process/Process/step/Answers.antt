@@ -1,5 +1,5 @@
 use Rattle.std.proofs.Common.{◌∙◌, ap, subst, inr, length}
-use Rattle.process_engine.specs.Engine.{Engine, position_of}
+use Rattle.process_engine.specs.Engine.{rules_of, Engine, position_of}
 use Rattle.process_engine.specs.Turns.{Leaves, CompletesLast}
 use Rattle.process_engine.specs.declared.stage.Stage.TheVariants.{Paused, InCall}
 use Rattle.process_engine.specs.contracts.process.Process.{the_view}
@@ -30,7 +30,7 @@ returns-in-More-clause-turn c =
       instructions = c.self.inside.instructions;
       last = c.self.inside.last;
       stage = c.self.inside.stage;
-      settings = c.self.inside.settings;
+      rules = rules_of c.self.inside.settings;
     } in
     inr (
     subst (λ x. Leaves (position_of x) (position_of q)) c.self.view_is
@@ -46,7 +46,7 @@ returns-in-Exit-clause-turn c =
       instructions = c.self.inside.instructions;
       last = c.self.inside.last;
       stage = Paused;
-      settings = c.self.inside.settings;
+      rules = rules_of c.self.inside.settings;
     } in
     subst (λ x. CompletesLast (position_of x) c.in-Exit.report (position_of q)) c.self.view_is
     (record {

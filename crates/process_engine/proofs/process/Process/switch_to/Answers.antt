@@ -9,7 +9,7 @@ returns-then-self-clause-advances c =
     let p = the_view c.self.inside in
     let here = c.requires in
     let turn = chosen_turn p c.args.self.now c.args.t c.self.view_is c.self.invariant here.rest here.going_on here.calm here.chosen in
-    is_spent p c.args.self.now c.args.t c.self.view_is turn c.if-self.true
+    is_spent p c.args.self.now c.args.t c.self.view_is c.self.invariant turn c.if-self.true
 
 pub make_instruction-requires : goal.make_instruction-requires
 make_instruction-requires c =
