@@ -1,0 +1,9 @@
+pub mod LedgerSums
+pub mod LedgerCalls
+pub mod LedgerMoves
+pub mod EntryLemmas
+pub mod CourseLemmas
+pub mod CourseRuns
+pub mod MoveWeightLemmas
+pub mod LightMoveLemmas
+pub mod WeightExampleLemmas

@@ -1,0 +1,69 @@
+-- Small ledgers, which the checker computes.
+use Rattle.std.specs.Prelude.{◌≡◌, true, List, [], ◌∷◌, replicate, slice_set}
+use Rattle.thread_base.specs.declared.action.Action.TheVariants.{Ignore}
+use Rattle.thread_base.specs.declared.mutex.Holder.TheVariants.{Free}
+use Rattle.posix_model.specs.State.{none_pending}
+use Rattle.posix_model.specs.Reports.{nothing_told}
+use Rattle.posix_model.specs.Runs.{Moment, after}
+use Rattle.posix_model.specs.Trace.{left_of}
+use Rattle.posix_model.specs.Examples.{six_threads}
+use Rattle.posix_model.specs.SignalExamples.{acting, at_condition}
+use Rattle.posix_model.specs.JournalExamples.{five_entries, moment_of, after_instructions}
+use Rattle.posix_model.specs.declared.Head.{Head}
+use Rattle.posix_model.specs.declared.Head.TheVariants.{Call, Fault, ArriveSig, ArriveTick, Deliver as Delivered, Accept}
+use Rattle.posix_model.specs.declared.Move.{Move}
+use Rattle.posix_model.specs.declared.Move.TheVariants.{Arrive, Deliver}
+use Rattle.posix_model.specs.declared.Reply.TheVariants.{Values}
+use Rattle.posix_model.specs.declared.Report.{Report}
+use Rattle.run_laws.specs.Ledger.{reports, income, outcome}
+
+-- thread 2 waits for a condition, signal 10 has a handler, and nothing pends
+abbrev pub waiting : Moment
+waiting = moment_of (record (at_condition Free) { pending = none_pending }) 5 0
+
+-- signal 10 comes twice, and thread 2 leaves its wait for it
+abbrev pub two_moves : List Move
+two_moves = Arrive 1 2 (after_instructions 5) ∷ Deliver ∷ []
+
+-- then its handler is entered
+abbrev pub three_moves : List Move
+three_moves = Arrive 1 2 (after_instructions 5) ∷ Deliver ∷ Deliver ∷ []
+
+-- a signal for which a thread leaves its wait still pends: it goes with the delivery that follows
+abbrev pub WaitsStillPend : Type 0
+WaitsStillPend =
+    (income 10 (reports five_entries waiting two_moves) ≡ 2) × (outcome 10 (reports five_entries waiting two_moves) ≡ 0)
+    × (left_of (after five_entries waiting two_moves).state 10 ≡ 2) × (income 10 (reports five_entries waiting three_moves) ≡ 2)
+    × (outcome 10 (reports five_entries waiting three_moves) ≡ 2) × (left_of (after five_entries waiting three_moves).state 10 ≡ 0)
+
+-- signal 10 is ignored
+abbrev pub ignoring : Moment
+ignoring = moment_of (acting six_threads 10 Ignore) 5 0
+
+-- a signal that is ignored is dropped where it comes
+abbrev pub DropsGo : Type 0
+DropsGo =
+    let told : List Report = reports five_entries ignoring (Arrive 1 2 (after_instructions 5) ∷ []) in
+    (income 10 told ≡ 2) × (outcome 10 told ≡ 2) × (income 17 told ≡ 0) × (outcome 17 told ≡ 0)
+
+-- a main line, and nothing else
+abbrev pub line_of : Head → Report
+line_of head = record nothing_told { head = head }
+
+-- kill(2, 10) succeeds, kill(9, 10) is refused, kill(12) succeeds; two of signal 12 come; a fault ends nothing yet, and the
+-- next one ends the process at once; the alarm goes off; thread 2 is delivered signal 10 and accepts signal 12; two of
+-- signal 17 are dropped; three KILLs end the process
+abbrev pub eleven_reports : List Report
+eleven_reports =
+    line_of (Call 290 (2 ∷ 10 ∷ 12 ∷ 0 ∷ []) (Values 0 0)) ∷ line_of (Call 290 (9 ∷ 10 ∷ 12 ∷ 0 ∷ []) (Values 3 0))
+    ∷ line_of (Call 291 (12 ∷ 10 ∷ 0 ∷ 0 ∷ []) (Values 0 0)) ∷ line_of (ArriveSig 1 2 12) ∷ line_of (Fault 11)
+    ∷ record (line_of (Fault 11)) { took = 2; took_sig = 11; took_count = 1 } ∷ record (line_of (ArriveTick 3)) { alarm = true }
+    ∷ line_of (Delivered 2 10 1) ∷ line_of (Accept 2 12 3) ∷ record (line_of (ArriveSig 4 2 17)) { drops = slice_set (replicate 32 0) 17 2 }
+    ∷ record (line_of (ArriveSig 6 3 9)) { took = 2; took_sig = 9; took_count = 3 } ∷ []
+
+-- what their ledgers add up to: one of signal 11 and the one of the alarm are left
+abbrev pub Accounts : Type 0
+Accounts =
+    (income 10 eleven_reports ≡ 1) × (outcome 10 eleven_reports ≡ 1) × (income 12 eleven_reports ≡ 3) × (outcome 12 eleven_reports ≡ 3)
+    × (income 11 eleven_reports ≡ 2) × (outcome 11 eleven_reports ≡ 1) × (income 14 eleven_reports ≡ 1) × (outcome 14 eleven_reports ≡ 0)
+    × (income 17 eleven_reports ≡ 2) × (outcome 17 eleven_reports ≡ 2) × (income 9 eleven_reports ≡ 3) × (outcome 9 eleven_reports ≡ 3)
