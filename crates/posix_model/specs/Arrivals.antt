@@ -16,12 +16,17 @@ use Rattle.posix_model.specs.declared.RetakeReply.TheVariants.{Answer}
 abbrev pub dropped : Outcome → ℕ → ℕ → Outcome
 dropped g sig count = record g { report = record g.report { drops = slice_set g.report.drops sig (slice_index g.report.drops sig + count) } }
 
--- a signal comes for the process: KILL ends it, one that is ignored is dropped, and every other pends (POSIX.1 kill)
-abbrev pub arrive_signal : Outcome → ℕ → ℕ → Outcome
-arrive_signal g sig count =
+-- a signal comes for a thread, or under the number 0 for the process: KILL ends the process, one that is ignored is dropped,
+-- and every other pends (POSIX.1 kill, pthread_kill)
+abbrev pub come : Outcome → ℕ → ℕ → ℕ → Outcome
+come g place sig count =
     if sig == 9 then killed_by sig count g
     else if ignores (g.state.actions sig) sig then dropped g sig count
-    else record g { state = pend g.state 0 sig count }
+    else record g { state = pend g.state place sig count }
+
+-- a signal comes for the process
+abbrev pub arrive_signal : Outcome → ℕ → ℕ → Outcome
+arrive_signal g sig count = come g 0 sig count
 
 -- a thread has a turn that ends: all but FIFO (POSIX.1 SCHED_RR, SCHED_OTHER)
 abbrev pub has_turn : Policy → Bool

@@ -9,6 +9,7 @@ use Rattle.posix_model.specs.Leaving.{exit_with}
 pub use Rattle.posix_model.specs.Replies.{Called, Row, Entry, row_of, arguments, call_number, values, refused, refusing, blocked}
 use Rattle.posix_model.specs.MutexCalls.{mutex_calls}
 use Rattle.posix_model.specs.ConditionCalls.{condition_calls}
+use Rattle.posix_model.specs.SignalCalls.{kill_calls}
 use Rattle.posix_model.specs.declared.Arguments.{Arguments}
 use Rattle.posix_model.specs.declared.Report.{Report}
 use Rattle.posix_model.specs.declared.Reply.TheVariants.{Exit as Exits, End}
@@ -102,7 +103,7 @@ yield s t c = values (begun (to_end s t)) t 0 0
 
 -- the calls of input, output and signals
 abbrev pub signal_calls : List Entry
-signal_calls = (64, write) ∷ []
+signal_calls = (64, write) ∷ kill_calls
 
 -- exit, and the calls of threads
 abbrev pub thread_calls : List Entry

@@ -1,5 +1,5 @@
 -- Which delivery is next, and what it makes (POSIX.1 signals in threads, cancellation; the order is this project's own).
-use Rattle.std.specs.Prelude.{ℕ, ◌+◌, ◌-◌, ◌^◌, ◌&&◌, ◌||◌, Bool, true, false, not, if◌then◌else◌, nat_lt, bit_or, find, ◌∷◌, length, slice_index, slice_set, Option, Some, None}
+use Rattle.std.specs.Prelude.{ℕ, ◌+◌, ◌-◌, ◌^◌, ◌&&◌, ◌||◌, Bool, true, false, not, if◌then◌else◌, nat_lt, bit_or, find, ◌∷◌, length, map, sum, slice_index, slice_set, Option, Some, None}
 use Rattle.std.specs.Option.{option_or, option_map}
 use Rattle.thread_base.specs.Actions.{ignores}
 use Rattle.thread_base.specs.Deliveries.{waits_for, next_delivery as next_signal}
@@ -83,6 +83,10 @@ set_pending s place sig count = record s { pending = put s.pending place (put (s
 -- more of a signal pend in a place
 abbrev pub pend : State → ℕ → ℕ → ℕ → State
 pend s place sig count = set_pending s place sig (s.pending place sig + count)
+
+-- how many of a signal still pend, over the process and all threads
+abbrev pub left_of : State → ℕ → ℕ
+left_of s sig = s.pending 0 sig + sum (map (λ t. s.pending t sig) tids)
 
 -- a thread that waits for a mutex waits for it no more
 abbrev pub unqueued : State → ℕ → Target → State

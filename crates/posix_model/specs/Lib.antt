@@ -12,9 +12,10 @@ pub mod Replies
 pub mod Conditions
 pub mod ConditionCalls
 pub mod MutexCalls
-pub mod Calls
 pub mod Deliveries
 pub mod Arrivals
+pub mod SignalCalls
+pub mod Calls
 pub mod Instructions
 pub mod Journals
 pub mod Runs

@@ -1,7 +1,7 @@
 -- The text of a run (this project's own format).
-use Rattle.std.specs.Prelude.{ℕ, ◌+◌, ◌==◌, ◌≡◌, ◌⊎◌, Bool, false, if◌then◌else◌, List, [], ◌∷◌, ◌++◌, map, sum, Option, Some, None}
-use Rattle.thread_base.specs.Priority.{tids}
+use Rattle.std.specs.Prelude.{ℕ, ◌==◌, ◌≡◌, ◌⊎◌, Bool, false, if◌then◌else◌, List, [], ◌∷◌, ◌++◌, map, Option, Some, None}
 use Rattle.posix_model.specs.State.{State}
+pub use Rattle.posix_model.specs.Deliveries.{left_of}
 use Rattle.posix_model.specs.Runs.{Rules, Moment, make, moved, after, IsRun, Ends}
 use Rattle.posix_model.specs.Lines.{lines, run_line, end_lines, sig_numbers}
 use Rattle.posix_model.specs.declared.Move.{Move}
@@ -29,11 +29,7 @@ abbrev pub text : Rules → Moment → List Move → List ℕ
 text rules now [] = []
 text rules now (move ∷ moves) = move_text rules now move ++ text rules (moved rules now move) moves
 
--- how many of a signal still pend, over the process and all threads
-abbrev pub left_of : State → ℕ → ℕ
-left_of s sig = s.pending 0 sig + sum (map (λ t. s.pending t sig) tids)
-
--- the same for each signal by its number
+-- how many of each signal still pend, over the process and all threads, by the signal's number
 unfoldable pub left : State → List ℕ
 left s = map (left_of s) sig_numbers
 

@@ -1,6 +1,6 @@
 -- The ranges of numbers, and the numbers of names.
 use Rattle.std.specs.Prelude.{ℕ, ◌≤◌, ◌==◌, ◌&&◌, ◌||◌, Bool, not, IsTrue, nat_le, nat_lt, if◌then◌else◌, bit_and}
-use Rattle.std.specs.Int.{bit_at}
+use Rattle.std.specs.Int.{bit_at, bit_not, w32}
 use Rattle.thread_base.specs.declared.Family.{Family}
 use Rattle.thread_base.specs.declared.Family.TheVariants.{Threads, Sync, Signals}
 use Rattle.thread_base.specs.declared.Policy.{Policy}
@@ -39,6 +39,10 @@ all_blocked = 0xFF83FDFE
 -- a word's signals that can be blocked
 abbrev pub set_of : ℕ → ℕ
 set_of word = bit_and word all_blocked
+
+-- the signals of a set that another does not have
+abbrev pub set_without : ℕ → ℕ → ℕ
+set_without set other = bit_and set (bit_not w32 other)
 
 -- a number that the call table has (this project's own numbers)
 abbrev pub IsCall : ℕ → Type 0

@@ -1,8 +1,8 @@
 //! Numbers and names that every layer shares.
 #![tactic(auto)]
 
-ghost use Rattle.std.specs.Prelude.{◌≡◌, ◌<◌, ◌≤◌, ◌+◌, ◌&&◌, ℕ, SomeIff};
-ghost use Rattle.thread_base.specs.Numbers.{IsTid, IsPrio, IsInScope, IsCall, IsPolicy, can_block, has_signal, set_of, policy_of, code_of, family_of};
+ghost use Rattle.std.specs.Prelude.{◌≡◌, ◌<◌, ◌≤◌, ◌+◌, ◌&&◌, ℕ, SomeIff, bit_or, ◌^◌};
+ghost use Rattle.thread_base.specs.Numbers.{IsTid, IsPrio, IsInScope, IsCall, IsPolicy, can_block, has_signal, set_of, set_without, policy_of, code_of, family_of};
 ghost use Rattle.thread_base.specs.Priority.{EffectiveIsGreatest};
 
 mod action;
@@ -190,6 +190,27 @@ impl SigSet {
         ensures { result ≡ has_signal self s }
     {
         (self.0 >> s.number()) & 1 == 1
+    }
+
+    /// The set with one signal more.
+    pub fn with(self, s: Sig) -> SigSet
+        ensures { result ≡ bit_or self (2 ^ s) }
+    {
+        SigSet(self.0 | 1 << s.number())
+    }
+
+    /// The signals of this set and of another.
+    pub fn union(self, other: SigSet) -> SigSet
+        ensures { result ≡ bit_or self other }
+    {
+        SigSet(self.0 | other.0)
+    }
+
+    /// The signals of this set that another does not have.
+    pub fn without(self, other: SigSet) -> SigSet
+        ensures { result ≡ set_without self other }
+    {
+        SigSet(self.0 & !other.0)
     }
 }
 
@@ -383,6 +404,10 @@ mod tests {
             }
         }
         assert_eq!(rt; SigSet::of(0xfffc_0202).word(), 0xff80_0002);
+        let set = SigSet::of(1 << 10).with(Sig::of(12));
+        assert_eq!(rt; set.word(), 1 << 10 | 1 << 12);
+        assert_eq!(rt; set.union(SigSet::of(1 << 2)).word(), 1 << 2 | 1 << 10 | 1 << 12);
+        assert_eq!(rt; set.without(SigSet::of(1 << 10)).word(), 1 << 12);
         assert!(rt; Place { n: 3, k: 9 } < Place { n: 4, k: 0 });
         assert!(rt; Place { n: 4, k: 0 } < Place { n: 4, k: 1 });
     }
