@@ -5,7 +5,7 @@ ghost use Rattle.std.specs.Prelude.{◌≡◌};
 ghost use Rattle.posix_model.specs.Reports.{nothing_told};
 ghost use Rattle.posix_model.specs.Laws.{OneRun, InstructionIsAlone, Progress, Completion, StaysEnd, Goodness, PriorityIsInherited, BestComesFirst, EveryoneIsWoken};
 ghost use Rattle.posix_model.specs.Laws.{InstructionsKeepGood, DeliveriesKeepGood, ArrivalsKeepGood, PlainInstructionsLeave, PendingIsBounded};
-ghost use Rattle.posix_model.specs.State.{EndOf, aim, is_target};
+ghost use Rattle.posix_model.specs.State.{EndOf, aim, is_target, set_at, takes_back};
 ghost use Rattle.thread_base.specs.Numbers.{code_of};
 
 use rv_exec::Special;
@@ -104,6 +104,26 @@ impl Wait {
             Wait::Signal(_) => false,
             Wait::Sleep { .. } => false,
             Wait::Read { .. } => false,
+        }
+    }
+
+    /// The set of signals that it is for; None exactly where it is for none.
+    pub fn awaited(self) -> Option<SigSet>
+        ensures { result ≡ set_at (aim self) }
+    {
+        match self {
+            Wait::Signal(set) => Some(set),
+            _ => None,
+        }
+    }
+
+    /// Whether it is for having a mutex back.
+    pub fn takes_back(self) -> bool
+        ensures { result ≡ takes_back (Some self) }
+    {
+        match self {
+            Wait::Reacquire { .. } => true,
+            _ => false,
         }
     }
 }
