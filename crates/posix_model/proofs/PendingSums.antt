@@ -25,7 +25,7 @@ use Rattle.posix_model.specs.Leaving.{answer_joiner, remains, without_thread, ov
 use Rattle.posix_model.specs.Exits.{ExitAction, RunCleanup, Destroy, Finish, exit_action, destroy_in, acted}
 use Rattle.posix_model.specs.Calls.{call_number, arguments}
 use Rattle.posix_model.specs.Deliveries.{Delivery, Acts, Gives, delivered, given, by_action, handled, wait_ended, unqueued, cancelled, set_pending, pend, killed_by, faulted, told, awaited, is_free_for}
-use Rattle.posix_model.specs.Arrivals.{dropped, arrive_signal, read_into, charge, charge_to, has_turn, has_come, timed_out, expired, expire_at, expire_all, ring, tick, readers, serve_at, serve_all, answer_all}
+use Rattle.posix_model.specs.Arrivals.{arrive_signal, read_into, charge, charge_to, has_turn, has_come, timed_out, expired, expire_at, expire_all, ring, tick, readers, serve_at, serve_all, answer_all}
 use Rattle.posix_model.specs.Instructions.{by_effect, instruction, handler_returned, cleanup_returned, start_returned, returned, segmentation_fault, told_return}
 use Rattle.posix_model.specs.Journals.{OfSignal, OfTicks, kind_of, Taken, with_taken, entry_at}
 use Rattle.posix_model.specs.Runs.{Rules, Moment, Allowed, IsRun, arrived, moved, after, taken_by, IsAlone}
@@ -37,7 +37,8 @@ use Rattle.posix_model.specs.declared.Head.TheVariants.{Accept}
 use Rattle.posix_model.specs.declared.Move.{Move}
 use Rattle.posix_model.specs.declared.Move.TheVariants.{Instr, Arrive, Deliver}
 use Rattle.posix_model.specs.declared.RetakeReply.TheVariants.{Answer, Cancel}
-use Rattle.posix_model.proofs.PendingLemmas.{either, Stays, calm_wake, calls_leave_pending}
+use Rattle.posix_model.proofs.PendingLemmas.{either, Stays, calm_wake}
+use Rattle.posix_model.proofs.PendingCalls.{adds_come, adds_call}
 use Rattle.posix_model.proofs.FaultSignals.{FaultsInScope, faults_in_scope}
 use Rattle.posix_model.proofs.JournalLemmas.{place_in}
 use Rattle.posix_model.proofs.WeightLemmas.{total_fewer}
@@ -112,7 +113,8 @@ module _ (s : State) (t : ℕ) where
   adds_effect : (e : Effect) → FaultsInScope e → Adds s (by_effect s t e).state 1 0
   adds_effect (Goes pc x memory) scope = adds_stays s (by_effect s t (Goes pc x memory)).state 1 0 refl
   adds_effect Calls scope =
-      adds_stays s (by_effect s t Calls).state 1 0 (calls_leave_pending s t (call_number (s.threads t).registers) (arguments (s.threads t).registers))
+      let called = adds_call s t (call_number (s.threads t).registers) (arguments (s.threads t).registers) in
+      record { sum = called.sum; time = called.time; scope = called.scope }
   adds_effect (Faults sig) scope = adds_faulted s t sig scope
   adds_effect (Returns which) scope = adds_returned which
 
@@ -173,15 +175,6 @@ adds_delivered s (Gives t sig place) scope due =
 
 -- ---- an arrival
 
-adds_signal : (g : Outcome) (sig count : ℕ) → IsInScope sig → Adds g.state (arrive_signal g sig count).state count 0
-adds_signal g sig count in_scope =
-    let pending : Outcome = record g { state = pend g.state 0 sig count } in
-    let heeded : Outcome = if ignores (g.state.actions sig) sig then dropped g sig count else pending in
-    either (λ (o : Outcome). Adds g.state o.state count 0) (sig == 9) (killed_by sig count g) heeded
-    (adds_stays g.state (killed_by sig count g).state count 0 refl)
-    (either (λ (o : Outcome). Adds g.state o.state count 0) (ignores (g.state.actions sig) sig) (dropped g sig count) pending
-    (adds_stays g.state (dropped g sig count).state count 0 refl) (adds_pend g.state 0 sig count in_scope))
-
 -- a tick
 stays_charge_to : (quantum : ℕ) (s : State) (t : ℕ) → Stays s (charge_to quantum s t)
 stays_charge_to quantum s t =
@@ -205,7 +198,7 @@ adds_ring : (g : Outcome) → Adds g.state (ring g).state 1 0
 adds_ring g =
     let rung : Outcome = record { state = record g.state { alarm = None }; report = record g.report { alarm = true } } in
     either (λ (o : Outcome). Adds g.state o.state 1 0) (has_come g.state.now g.state.alarm) (arrive_signal rung 14 1) g
-    (adds_after g.state rung.state (arrive_signal rung 14 1).state 1 0 refl (adds_signal rung 14 1 refl)) (adds_stays g.state g.state 1 0 refl)
+    (adds_after g.state rung.state (arrive_signal rung 14 1).state 1 0 refl (adds_come rung 0 14 1 refl)) (adds_stays g.state g.state 1 0 refl)
 
 -- it adds one at most, the signal of the alarm
 adds_tick : (quantum : ℕ) (s : State) → Adds s (tick quantum (begun s)).state 1 1
@@ -313,7 +306,7 @@ bounded_arrived rules now first count at entry scope alone bounded = by entry.wh
     by : (what : What) → ComesInScope what → IsAlone (kind_of what) count → IsBounded (next what)
     by (Sig sig) scope alone =
         let more = more_taken now.taken count (Sig sig) scope in
-        bounded_on now (next (Sig sig)) count 0 (adds_signal (begun now.state) sig count scope) (omega (arith, more)) (omega arith) bounded
+        bounded_on now (next (Sig sig)) count 0 (adds_come (begun now.state) 0 sig count scope) (omega (arith, more)) (omega arith) bounded
     by Tick scope alone =
         let more = more_taken now.taken count Tick scope in
         bounded_on now (next Tick) 1 1 (adds_tick rules.settings.quantum now.state) (omega (arith, more, alone)) (omega (arith, alone)) bounded
