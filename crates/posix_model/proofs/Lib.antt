@@ -27,6 +27,7 @@ pub mod JournalLemmas
 pub mod EndLemmas
 pub mod NextLemmas
 pub mod PendingSums
+pub mod PendingMoves
 pub mod TextLemmas
 pub mod OneRun
 pub mod TraceLemmas

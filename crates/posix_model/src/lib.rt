@@ -306,7 +306,7 @@ pub fn plain_instructions_leave()
 
 /// The sum of all that pends is at most the instructions made and the entries taken together, the time is at most
 /// the ticks taken, and nothing pends but signals in scope.
-#[tactic(auto, using(crate::proofs::PendingSums::pending_is_bounded))]
+#[tactic(auto, using(crate::proofs::PendingMoves::pending_is_bounded))]
 pub fn pending_is_bounded()
     ensures { PendingIsBounded }
 {}
