@@ -3,7 +3,6 @@ use Rattle.std.proofs.Common.{◌≡◌, ◌≢◌, ◌∙◌, ap, sym, refl, su
 use Rattle.std.specs.Prelude.{◌==◌, if◌then◌else◌, nat_le, min}
 use Rattle.std.specs.Option.{ForSome}
 use Rattle.std.proofs.lemmas.Bool.{eq-eqb, ne_eqb, leb-false, and_parts, or_left, or_right, false_from_ne_true}
-use Rattle.thread_base.specs.Actions.{ignores}
 use Rattle.thread_base.specs.Maps.{put}
 use Rattle.thread_base.specs.Orders.{is_in, IsOrder}
 use Rattle.thread_base.specs.Priority.{tids}
@@ -17,35 +16,21 @@ use Rattle.journal_text.specs.declared.entry.What.TheVariants.{Sig, Tick, Data, 
 use Rattle.posix_model.specs.State.{State, Thread, Standing, Waits, Target, ConditionAt, ATime, Input, target, wait_of, deadline_by, is_absent, is_ready, is_reading, is_at_condition}
 use Rattle.posix_model.specs.Changes.{Outcome, begun, set_thread, to_end, with_reply, answer}
 use Rattle.posix_model.specs.Conditions.{wake}
-use Rattle.posix_model.specs.Deliveries.{pend, killed_by}
 use Rattle.rv_exec.specs.Window.{with_bytes}
 use Rattle.posix_model.specs.Scheduling.{eff, chosen}
-use Rattle.posix_model.specs.Arrivals.{dropped, arrive_signal, has_turn, charge_to, charge, has_come, expired, timed_out, expire_at, expire_all, ring, tick, readers, read_into, serve_at, serve_all, arrive_data, answer_all, arrive_end}
+use Rattle.posix_model.specs.Arrivals.{arrive_signal, has_turn, charge_to, charge, has_come, expired, timed_out, expire_at, expire_all, ring, tick, readers, read_into, serve_at, serve_all, arrive_data, answer_all, arrive_end}
 use Rattle.posix_model.specs.Runs.{Rules, arrived}
 use Rattle.posix_model.specs.Good.{standings, IsGood, AreSoundWaits}
-use Rattle.posix_model.specs.declared.Ending.TheVariants.{Killed}
 use Rattle.posix_model.specs.declared.RetakeReply.{RetakeReply}
 use Rattle.posix_model.specs.declared.RetakeReply.TheVariants.{Answer}
 use Rattle.posix_model.specs.declared.Wait.TheVariants.{Cond, Sleep}
 use Rattle.posix_model.proofs.StandingLemmas.{never, for_none}
 use Rattle.posix_model.proofs.ListLemmas.{each_put, is_in_filter, IsOrder-tids}
-use Rattle.posix_model.proofs.GoodLemmas.{good_alike, good_set, good_pending, good_to_end, chosen_ready}
+use Rattle.posix_model.proofs.GoodLemmas.{good_alike, good_set, good_to_end, chosen_ready}
 use Rattle.posix_model.proofs.GoodConditions.{good_wake}
-use Rattle.posix_model.proofs.GoodDeliveries.{good_ending, good_unqueued}
+use Rattle.posix_model.proofs.GoodDeliveries.{good_unqueued}
+use Rattle.posix_model.proofs.GoodSignals.{good_come}
 use Rattle.posix_model.proofs.WakeLemmas.{wake_alike, wake_leaves, wake_changes, in_order_is_in, IsOrder-in_order}
-
--- a signal comes for the process
-good_arrive_signal : (g : Outcome) (sig count : ℕ) → IsGood g.state → IsGood (arrive_signal g sig count).state
-good_arrive_signal g sig count good = by (sig == 9)
-  where
-    heeded : (b : Bool) → ignores (g.state.actions sig) sig ≡ b → IsGood (if b then dropped g sig count else record g { state = pend g.state 0 sig count }).state
-    heeded true h = good
-    heeded false h = good_pending g.state 0 sig (g.state.pending 0 sig + count) good (λ ignored. absurd (never (ignores (g.state.actions sig) sig) ignored h))
-
-    by : (b : Bool)
-        → IsGood (if b then killed_by sig count g else if ignores (g.state.actions sig) sig then dropped g sig count else record g { state = pend g.state 0 sig count }).state
-    by true = good_ending g.state (Some (Killed sig)) good
-    by false = heeded (ignores (g.state.actions sig) sig) refl
 
 -- a state at another time
 abbrev at_time : ℕ → State → State
@@ -145,7 +130,7 @@ module _ (before : ℕ) where
 
       by : (b : Bool) → has_come g.state.now g.state.alarm ≡ b → IsGood (if b then arrive_signal rung 14 1 else g).state
       by true h =
-          good_arrive_signal rung 14 1
+          good_come rung 0 14 1
           (good_alike (at_time before g.state) rung.state refl good good.ready good.joining good.mutexes good.conditions waits
           (record { later = for_none None (λ until. g.state.now < until) refl; heeded = good.signals.heeded }))
       by false h =
@@ -237,7 +222,7 @@ good_arrived rules s first count at None good = good
 good_arrived rules s first count at (Some entry) good = by entry.what
   where
     by : (what : What) → IsGood (arrived rules s first count at (Some (record entry { what = what }))).state
-    by (Sig sig) = good_arrive_signal (begun s) sig count good
+    by (Sig sig) = good_come (begun s) 0 sig count good
     by Tick = good_tick rules.settings.quantum (begun s) good
     by (Data start len) = good_arrive_data (begun s) (take len (drop start rules.journal.bytes)) good
     by Eof = good_arrive_end (begun s) good

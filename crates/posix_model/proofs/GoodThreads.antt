@@ -21,6 +21,7 @@ use Rattle.posix_model.proofs.GoodLemmas.{good_alike, good_set, good_reply, good
 use Rattle.posix_model.proofs.GoodReplies.{GoodCall, IsGoodRow, AreGoodRows, good_refused, good_refusing, good_row_of}
 use Rattle.posix_model.proofs.GoodMutexes.{good_mutex_calls}
 use Rattle.posix_model.proofs.GoodConditions.{good_condition_calls}
+use Rattle.posix_model.proofs.GoodSignals.{good_kill_calls}
 
 good_write : IsGoodRow write
 good_write s t c good ready =
@@ -84,7 +85,7 @@ good_yield : IsGoodRow yield
 good_yield s t c good ready = good_reply (to_end s t) t 0 0 (good_to_end s t good ready)
 
 good_signal_calls : AreGoodRows signal_calls
-good_signal_calls = (good_write, tt)
+good_signal_calls = (good_write, good_kill_calls)
 
 good_thread_calls : AreGoodRows thread_calls
 good_thread_calls = (good_exit, (good_create, (good_exit_thread, (good_join_row, (good_detach, (good_self, (good_yield, tt)))))))

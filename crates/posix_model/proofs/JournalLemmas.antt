@@ -41,7 +41,7 @@ all_at P (x ∷ xs) n all h =
       | inr rest ↦ all_at P xs n all.1 rest
     ]
 
-ascend_filter : (test : ℕ → Bool) (xs : List ℕ) → Ascends xs → Ascends (filter test xs)
+pub ascend_filter : (test : ℕ → Bool) (xs : List ℕ) → Ascends xs → Ascends (filter test xs)
 ascend_filter test [] asc = tt
 ascend_filter test (x ∷ xs) asc =
     let rest = ascend_filter test xs asc.1 in
@@ -63,7 +63,7 @@ ascend_range first (suc count) =
     (all_weaken (λ u. first + 1 ≤ u) (λ u. first < u) (λ u h. omega arith) (range_with_len (first + 1) count) (range_above (first + 1) count), ascend_range (first + 1) count)
 
 -- no member is less than the first
-first_least : (x : ℕ) (xs : List ℕ) (n : ℕ) → Ascends (x ∷ xs) → is_in n (x ∷ xs) ≡ true → x ≤ n
+pub first_least : (x : ℕ) (xs : List ℕ) (n : ℕ) → Ascends (x ∷ xs) → is_in n (x ∷ xs) ≡ true → x ≤ n
 first_least x xs n asc h =
     all_at (λ u. x ≤ u) (x ∷ xs) n (omega arith, all_weaken (λ u. x < u) (λ u. x ≤ u) (λ u l. omega arith) xs asc.0) h
 
@@ -108,7 +108,7 @@ in_drop (suc count) [] n h = h
 in_drop (suc count) (x ∷ xs) n h = or_right (n == x) (is_in n xs) (in_drop count xs n h)
 
 -- a list with a member has a first one
-first_member : (xs : List ℕ) (n : ℕ) → is_in n xs ≡ true → (m : ℕ) × (rest : List ℕ) × (xs ≡ m ∷ rest)
+pub first_member : (xs : List ℕ) (n : ℕ) → is_in n xs ≡ true → (m : ℕ) × (rest : List ℕ) × (xs ≡ m ∷ rest)
 first_member [] n h = let e : false ≡ true = h in absurd (cc)
 first_member (x ∷ xs) n h = (x, xs, refl)
 
@@ -186,13 +186,13 @@ place_in es n e here =
     ]
 
 -- a number of a kind that is left has an entry of the kind
-left_entry : (es : List Entry) (taken : Taken) (kind : Kind) (m : ℕ) → is_in m (left_of_kind es taken kind) ≡ true
+pub left_entry : (es : List Entry) (taken : Taken) (kind : Kind) (m : ℕ) → is_in m (left_of_kind es taken kind) ≡ true
     → (e : Entry) × (entry_at es m ≡ Some e) × (kind ≡ kind_of e.what)
 left_entry es taken kind m h =
     let found = number_entry kind 1 es m (in_drop (taken kind) (numbers_from kind 1 es) m h) in
     (found.1, ap (entry_at es) found.2 ∙ entry_of_next es found.0 ∙ found.3, found.4)
 
-left_ascends : (es : List Entry) (taken : Taken) (kind : Kind) → Ascends (left_of_kind es taken kind)
+pub left_ascends : (es : List Entry) (taken : Taken) (kind : Kind) → Ascends (left_of_kind es taken kind)
 left_ascends es taken kind = ascend_drop (taken kind) (numbers_from kind 1 es) (numbers_ascend kind 1 es)
 
 -- an entry is left where its number is among those of its kind
@@ -351,7 +351,7 @@ first_of_left es taken n left =
     first_left es taken kind n first.0 first.1 first.2 found.2
 
 -- what comes before an entry whose place is reached is reached too
-reached_before : (es : List Entry) (taken : Taken) (instructions n m : ℕ) (e : Entry) → EachFollows [] es → is_in m (untaken es taken) ≡ true → entry_at es m ≡ Some e
+pub reached_before : (es : List Entry) (taken : Taken) (instructions n m : ℕ) (e : Entry) → EachFollows [] es → is_in m (untaken es taken) ≡ true → entry_at es m ≡ Some e
     → m ≤ n → is_in n (reached es taken instructions) ≡ true → is_in m (reached es taken instructions) ≡ true
 reached_before es taken instructions n m e each left here low h =
     let was = (in_reached es taken instructions n h).1 in
@@ -440,12 +440,12 @@ module _ (p q : ℕ → Bool) (also : (n : ℕ) → q n ≡ true → p n ≡ tru
         | inr rest ↦ one_less (p y) (q y) y (filter q ys) (filter p ys) (also y) (fewer ys x rest is none)
       ]
 
-in_drop_less : (a b : ℕ) (xs : List ℕ) (n : ℕ) → a ≤ b → is_in n (drop b xs) ≡ true → is_in n (drop a xs) ≡ true
+pub in_drop_less : (a b : ℕ) (xs : List ℕ) (n : ℕ) → a ≤ b → is_in n (drop b xs) ≡ true → is_in n (drop a xs) ≡ true
 in_drop_less a b xs n le h =
     let more : a + (b - a) ≡ b = omega (arith, le) in
     in_drop (b - a) (drop a xs) n (ap (is_in n) (drop-drop (b - a) a xs) ∙ ap (λ c. is_in n (drop c xs)) more ∙ h)
 
-more_taken : (taken : Taken) (kind k : Kind) (count : ℕ) → taken k ≤ with_taken taken kind count k
+pub more_taken : (taken : Taken) (kind k : Kind) (count : ℕ) → taken k ≤ with_taken taken kind count k
 more_taken taken kind k count = cond_both (is_kind k kind) (taken k + count) (taken k) (λ n. taken k ≤ n) (λ e. omega arith) (λ e. omega arith)
 
 -- what is left where more is taken was left before
@@ -497,7 +497,7 @@ filter_le test (x ∷ xs) =
     let rest = filter_le test xs in
     cond_both (test x) (x ∷ filter test xs) (filter test xs) (λ ys. length ys ≤ length (x ∷ xs)) (λ e. omega (arith, rest)) (λ e. omega (arith, rest))
 
-length_range : (first count : ℕ) → length (range_with_len first count) ≡ count
+pub length_range : (first count : ℕ) → length (range_with_len first count) ≡ count
 length_range first zero = refl
 length_range first (suc count) = let rest = length_range (first + 1) count in omega (arith, rest)
 

@@ -10,9 +10,10 @@ pub mod GoodReplies
 pub mod GoodHands
 pub mod GoodConditions
 pub mod GoodMutexes
-pub mod GoodThreads
 pub mod WakeLemmas
 pub mod GoodDeliveries
+pub mod GoodSignals
+pub mod GoodThreads
 pub mod GoodArrivals
 pub mod GoodMoves
 pub mod TableLemmas
@@ -21,10 +22,12 @@ pub mod WeightLemmas
 pub mod Weights
 pub mod FaultSignals
 pub mod PendingCounts
+pub mod PendingCalls
 pub mod JournalLemmas
 pub mod EndLemmas
 pub mod NextLemmas
 pub mod PendingSums
+pub mod PendingMoves
 pub mod TextLemmas
 pub mod OneRun
 pub mod TraceLemmas

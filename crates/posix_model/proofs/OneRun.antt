@@ -118,7 +118,7 @@ state_by rules s first count at other place Tick = refl
 state_by rules s first count at other place (Data start len) = refl
 state_by rules s first count at other place Eof = refl
 
-same_state : (rules : Rules) (s : State) (first count : ℕ) (at other : Place) (entry : Option Entry)
+pub same_state : (rules : Rules) (s : State) (first count : ℕ) (at other : Place) (entry : Option Entry)
     → (arrived rules s first count at entry).state ≡ (arrived rules s first count other entry).state
 same_state rules s first count at other None = refl
 same_state rules s first count at other (Some entry) = state_by rules s first count at other entry.place entry.what
@@ -132,7 +132,7 @@ lines_by rules s first count at other place (Data start len) memory =
     place_is_silent at other (ArriveData first len) (arrive_data (begun s) (take len (drop start rules.journal.bytes))) memory
 lines_by rules s first count at other place Eof memory = place_is_silent at other (ArriveEof first) (arrive_end (begun s)) memory
 
-same_lines : (rules : Rules) (s : State) (first count : ℕ) (at other : Place) (entry : Option Entry) (memory : List ℕ)
+pub same_lines : (rules : Rules) (s : State) (first count : ℕ) (at other : Place) (entry : Option Entry) (memory : List ℕ)
     → lines (arrived rules s first count at entry).report memory ≡ lines (arrived rules s first count other entry).report memory
 same_lines rules s first count at other None memory = refl
 same_lines rules s first count at other (Some entry) memory = lines_by rules s first count at other entry.place entry.what memory

@@ -8,6 +8,7 @@ use Rattle.thread_base.specs.Priority.{tids}
 use Rattle.thread_base.proofs.MapLemmas.{put_same, put_other}
 use Rattle.posix_model.specs.State.{State, none_pending}
 use Rattle.posix_model.specs.Deliveries.{pend, set_pending}
+use Rattle.posix_model.specs.SignalCalls.{forgotten}
 use Rattle.posix_model.specs.Weights.{total, pending_in_all, PendsInScope}
 use Rattle.posix_model.proofs.ListLemmas.{each_put}
 use Rattle.posix_model.proofs.WeightLemmas.{total_less, total_more, total_fewer, total_most}
@@ -48,6 +49,21 @@ unfolding row_sum signals
 row_taken row sig low high =
     total_fewer (put row sig 0) row sig (row sig) 1 31 (each_put (λ v n. n ≤ row v) row sig 0 (omega arith) (λ v ne. omega arith))
     (let none = put_same row sig 0 in omega (arith, none)) low (omega arith)
+
+-- nothing of a signal pends any more
+own_forgotten : (sig : ℕ) (counts : ℕ → ℕ → ℕ) → own_sum (forgotten sig counts) ≤ own_sum counts
+unfolding own_sum tids
+own_forgotten sig counts =
+    total_less (λ t. row_sum (forgotten sig counts t)) (λ t. row_sum (counts t)) 1 64
+    (λ t low. let less = row_more (counts t) sig 0 0 (omega arith) in omega (arith, less))
+
+sum_forgotten : (sig : ℕ) (counts : ℕ → ℕ → ℕ) → sum_of (forgotten sig counts) ≤ sum_of counts
+sum_forgotten sig counts =
+    let before = parts_of counts in
+    let after = parts_of (forgotten sig counts) in
+    let process = row_more (counts 0) sig 0 0 (omega arith) in
+    let threads = own_forgotten sig counts in
+    omega (arith, before, after, process, threads)
 
 module _ (counts : ℕ → ℕ → ℕ) (place : ℕ) (row : ℕ → ℕ) where
   row_here : row_sum (put counts place row place) ≡ row_sum row
@@ -146,6 +162,16 @@ adds_after s r q more ticks stays adds =
     let late = adds.time in
     record { sum = omega (arith, low, high); time = omega (arith, soon, late); scope = λ scope. adds.scope (first.scope scope) }
 
+-- before a change that leaves what pends
+pub adds_before : (s r q : State) (more ticks : ℕ) → Adds s r more ticks → Stays r q → Adds s q more ticks
+adds_before s r q more ticks adds stays =
+    let last = adds_stays r q 0 0 stays in
+    let low = adds.sum in
+    let high = last.sum in
+    let soon = adds.time in
+    let late = last.time in
+    record { sum = omega (arith, low, high); time = omega (arith, soon, late); scope = λ scope. last.scope (adds.scope scope) }
+
 -- more of a signal in scope pend in a place
 pub adds_pend : (s : State) (place sig count : ℕ) → IsInScope sig → Adds s (pend s place sig count) count 0
 adds_pend s place sig count in_scope = record {
@@ -166,6 +192,18 @@ adds_cleared s r t more ticks same times =
       time = omega (arith, times);
       scope = λ scope. subst (λ (f : ℕ → ℕ → ℕ). (place sig : ℕ) → 0 < f place sig → IsInScope sig) (sym same)
           (each_put (λ v (row : ℕ → ℕ). (n : ℕ) → 0 < row n → IsInScope n) s.pending t (λ sig. 0) (λ n h. absurd (omega (arith, h))) (λ v ne. scope v));
+    }
+
+-- nothing of a signal pends any more
+pub adds_forgotten : (s r : State) (sig more ticks : ℕ) → r.pending ≡ forgotten sig s.pending → r.now ≡ s.now → Adds s r more ticks
+adds_forgotten s r sig more ticks same times =
+    let less = sum_forgotten sig s.pending in
+    let sums : sum_of r.pending ≡ sum_of (forgotten sig s.pending) = ap sum_of same in
+    record {
+      sum = omega (arith, less, sums);
+      time = omega (arith, times);
+      scope = λ scope. subst (λ (f : ℕ → ℕ → ℕ). (place n : ℕ) → 0 < f place n → IsInScope n) (sym same)
+          (λ place. each_put (λ n c. 0 < c → IsInScope n) (s.pending place) sig 0 (λ h. absurd (omega (arith, h))) (λ n ne. scope place n));
     }
 
 -- a signal is taken with its whole count

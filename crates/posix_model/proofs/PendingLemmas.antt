@@ -1,7 +1,8 @@
--- What leaves all that pends, and the time: calls, and the ends of waits.
-use Rattle.std.proofs.Common.{◌≡◌, ◌∙◌, refl, ℕ, ◌-◌, Bool, true, false, not, List, [], ◌∷◌, ◌++◌, Option, Some, None, length}
+-- What leaves all that pends, and the time: calls but those of signals, and the ends of waits.
+use Rattle.std.proofs.Common.{◌≡◌, ◌∙◌, refl, sym, ap, subst, ℕ, ◌-◌, Bool, true, false, not, List, [], ◌∷◌, ◌++◌, Option, Some, None, length}
 use Rattle.std.specs.Prelude.{◌==◌, ◌||◌, if◌then◌else◌, min, is_some, nat_lt}
 use Rattle.std.specs.List.{AllByRecursion}
+use Rattle.std.proofs.lemmas.Bool.{or_parts}
 use Rattle.thread_base.specs.Holders.{is_held_by, count_of, is_free}
 use Rattle.thread_base.specs.Objects.{new_condition}
 use Rattle.thread_base.specs.Orders.{is_nil}
@@ -16,9 +17,10 @@ use Rattle.posix_model.specs.Threads.{exists, free_number}
 use Rattle.posix_model.specs.Conditions.{set_condition, is_other, is_used, leave, wake_from, wake, wake_all, in_order, next_woken}
 use Rattle.posix_model.specs.Scheduling.{eff}
 use Rattle.posix_model.specs.Replies.{Called, Row, Entry, values, refused, refusing, row_of}
-use Rattle.posix_model.specs.Calls.{most_written, written, write, cannot_start, is_taken, created, create, join_by, join, detached_by, detach, signal_calls, thread_calls, sync_calls, call_row}
+use Rattle.posix_model.specs.Calls.{most_written, written, write, cannot_start, is_taken, created, create, join_by, join, detached_by, detach, thread_calls, sync_calls, call_row}
 use Rattle.posix_model.specs.MutexCalls.{new_mutex, cannot_init, is_checked, is_full, mutex_init, destroy_of, take, queue, is_open_to, lock_of, trylock_of, released, unlock_of, mutex_calls}
 use Rattle.posix_model.specs.ConditionCalls.{await_condition, wait_and_release, cond_init, cond_destroy_of, cond_wait_of, wake_one, cond_signal_of, cond_broadcast_of, condition_calls}
+use Rattle.posix_model.specs.SignalCalls.{kill_calls}
 use Rattle.posix_model.specs.declared.Arguments.{Arguments}
 use Rattle.posix_model.specs.declared.RetakeReply.{RetakeReply}
 use Rattle.posix_model.specs.declared.RetakeReply.TheVariants.{Answer}
@@ -32,11 +34,11 @@ pends_at s = (s.pending, s.now)
 abbrev pub Stays : State → State → Type 0
 Stays s r = pends_at r ≡ pends_at s
 
-abbrev CallStays : State → Called → Type 0
+abbrev pub CallStays : State → Called → Type 0
 CallStays s called = Stays s called.outcome.state
 
 -- a row leaves both
-abbrev IsCalm : Row → Type 0
+abbrev pub IsCalm : Row → Type 0
 IsCalm row = (s : State) (t : ℕ) (c : Arguments) → CallStays s (row s t c)
 
 pub either : {A : Type 0} (P : A → Type 0) (b : Bool) (x y : A) → P x → P y → P (if b then x else y)
@@ -145,7 +147,7 @@ calm_row_of number [] others rows more s t c = more s t c
 calm_row_of number (entry ∷ entries) others rows more s t c =
     either (CallStays s) (number == entry.0) (entry.1 s t c) (row_of (entries ++ others) number s t c) (rows.0 s t c) (calm_row_of number entries others rows.1 more s t c)
 
-calm_write : IsCalm write
+pub calm_write : IsCalm write
 calm_write s t c =
     calm_refusing s t ((not ((c.a0 == 1) || (c.a0 == 2)), EBADF) ∷ (not (fits (length s.memory) c.a1 c.a2), EFAULT) ∷ []) (written s t c (min c.a2 most_written)) refl
 
@@ -169,9 +171,6 @@ calm_mutex_init s t c =
 calm_cond_init : IsCalm cond_init
 calm_cond_init s t c =
     calm_refusing s t ((not (nat_lt c.a0 256), EINVAL) ∷ (is_some (s.conditions c.a0), EBUSY) ∷ []) (values (begun (set_condition s c.a0 (Some new_condition))) t 0 0) refl
-
-calm_signal_calls : AreCalm signal_calls
-calm_signal_calls = (calm_write, tt)
 
 calm_thread_calls : AreCalm thread_calls
 calm_thread_calls = (λ s t c. refl, (calm_create, (λ s t c. refl, (calm_join, (calm_detach, (λ s t c. refl, (λ s t c. refl, tt)))))))
@@ -206,12 +205,30 @@ calm_condition_calls = (
   ),
 )
 
--- a call leaves both
-pub calls_leave_pending : (s : State) (t number : ℕ) (c : Arguments) → Stays s (call_row s t number c).outcome.state
-unfolding call_row
-calls_leave_pending s t number =
-    calm_row_of number signal_calls (thread_calls ++ sync_calls) calm_signal_calls
-    (calm_row_of number thread_calls sync_calls calm_thread_calls
+-- the calls of threads, of mutexes and of conditions leave both
+pub calm_others : (number : ℕ) → IsCalm (row_of (thread_calls ++ sync_calls) number)
+calm_others number =
+    calm_row_of number thread_calls sync_calls calm_thread_calls
     (calm_row_of number mutex_calls condition_calls calm_mutex_calls
-    (calm_row_of number condition_calls [] calm_condition_calls (λ r u c. refl))))
-    s t
+    (calm_row_of number condition_calls [] calm_condition_calls (λ s t c. refl)))
+
+-- a list has a call of a number
+abbrev pub is_listed : ℕ → List Entry → Bool
+is_listed number [] = false
+is_listed number (entry ∷ entries) = (number == entry.0) || is_listed number entries
+
+-- the row of a number that a list does not have is that in the calls after
+unlisted : (number : ℕ) (entries others : List Entry) (s : State) (t : ℕ) (c : Arguments) → is_listed number entries ≡ false
+    → row_of (entries ++ others) number s t c ≡ row_of others number s t c
+unlisted number [] others s t c none = refl
+unlisted number (entry ∷ entries) others s t c none =
+    let parts = or_parts (number == entry.0) (is_listed number entries) none in
+    ap (λ b. if b then entry.1 s t c else row_of (entries ++ others) number s t c) parts.0 ∙ unlisted number entries others s t c parts.1
+
+-- a call that is none of signals leaves both
+pub calls_leave_pending : (s : State) (t number : ℕ) (c : Arguments) → is_listed number kill_calls ≡ false → Stays s (call_row s t number c).outcome.state
+unfolding call_row
+calls_leave_pending s t number c none =
+    let others = thread_calls ++ sync_calls in
+    either (CallStays s) (number == 64) (write s t c) (row_of (kill_calls ++ others) number s t c) (calm_write s t c)
+    (subst (CallStays s) (sym (unlisted number kill_calls others s t c none)) (calm_others number s t c))

@@ -1,21 +1,14 @@
--- All that pends came by an instruction or an entry, and the time is that of the ticks taken.
-use Rattle.std.proofs.Common.{◌≡◌, ◌∙◌, refl, sym, ap, subst, arith, ℕ, zero, suc, ◌+◌, ◌≤◌, true, false, ◌&&◌, ◌||◌, List, [], ◌∷◌, ◌++◌, length, take, drop, min, Option, Some, None}
-use Rattle.std.specs.Prelude.{if◌then◌else◌, ◌==◌, not, nat_lt, nat_le, slice_get}
-use Rattle.std.proofs.lemmas.Bool.{eq-eqb, leb-true, and_parts}
-use Rattle.std.proofs.lemmas.Option.{same_Some}
+-- How many more signals pend after an instruction, a delivery and an arrival, and by how much the time goes on.
+use Rattle.std.proofs.Common.{◌∙◌, refl, ap, arith, ℕ, ◌+◌, true, false, ◌&&◌, List, [], ◌∷◌, length, min, Option, Some, None}
+use Rattle.std.specs.Prelude.{◌==◌, not, nat_le}
 use Rattle.thread_base.specs.Actions.{ignores}
-use Rattle.thread_base.specs.Deliveries.{signals, waits_for}
+use Rattle.thread_base.specs.Deliveries.{waits_for}
 use Rattle.thread_base.specs.Numbers.{IsInScope}
-use Rattle.thread_base.specs.declared.Place.{Place}
 use Rattle.thread_base.specs.declared.action.Action.{Action}
 use Rattle.thread_base.specs.declared.action.Action.TheVariants.{Default, Ignore, Handler as OfHandler}
 use Rattle.rv_exec.specs.Meaning.{Effect, Goes, Calls, Faults, Returns, effect}
 use Rattle.rv_exec.specs.declared.Special.{Special}
 use Rattle.rv_exec.specs.declared.Special.TheVariants.{Handler, Cleanup, Start}
-use Rattle.journal_text.specs.Valid.{IsJournal, IsEvent, EachFollows}
-use Rattle.journal_text.specs.declared.entry.Entry.{Entry}
-use Rattle.journal_text.specs.declared.entry.What.{What}
-use Rattle.journal_text.specs.declared.entry.What.TheVariants.{Sig, Tick, Data, Eof}
 use Rattle.posix_model.specs.State.{State, Thread, Frame, Key, Phase, Normal, Leaving, Target, Nothing, MutexAt, ConditionAt, ATime, Input, target, is_of_handler}
 use Rattle.posix_model.specs.Changes.{Outcome, begun, answer, to_end, set_thread}
 use Rattle.posix_model.specs.Conditions.{wake}
@@ -25,25 +18,18 @@ use Rattle.posix_model.specs.Leaving.{answer_joiner, remains, without_thread, ov
 use Rattle.posix_model.specs.Exits.{ExitAction, RunCleanup, Destroy, Finish, exit_action, destroy_in, acted}
 use Rattle.posix_model.specs.Calls.{call_number, arguments}
 use Rattle.posix_model.specs.Deliveries.{Delivery, Acts, Gives, delivered, given, by_action, handled, wait_ended, unqueued, cancelled, set_pending, pend, killed_by, faulted, told, awaited, is_free_for}
-use Rattle.posix_model.specs.Arrivals.{dropped, arrive_signal, read_into, charge, charge_to, has_turn, has_come, timed_out, expired, expire_at, expire_all, ring, tick, readers, serve_at, serve_all, answer_all}
+use Rattle.posix_model.specs.Arrivals.{arrive_signal, read_into, charge, charge_to, has_turn, has_come, timed_out, expired, expire_at, expire_all, ring, tick, serve_at, serve_all, answer_all}
 use Rattle.posix_model.specs.Instructions.{by_effect, instruction, handler_returned, cleanup_returned, start_returned, returned, segmentation_fault, told_return}
-use Rattle.posix_model.specs.Journals.{OfSignal, OfTicks, kind_of, Taken, with_taken, entry_at}
-use Rattle.posix_model.specs.Runs.{Rules, Moment, Allowed, IsRun, arrived, moved, after, taken_by, IsAlone}
-use Rattle.posix_model.specs.Start.{start}
-use Rattle.posix_model.specs.Weights.{total, PendsInScope}
-use Rattle.posix_model.specs.Laws.{taken_in_all, PendingIsBounded}
+use Rattle.posix_model.specs.Weights.{PendsInScope}
 use Rattle.posix_model.specs.declared.Ending.TheVariants.{Exit}
 use Rattle.posix_model.specs.declared.Head.TheVariants.{Accept}
-use Rattle.posix_model.specs.declared.Move.{Move}
-use Rattle.posix_model.specs.declared.Move.TheVariants.{Instr, Arrive, Deliver}
 use Rattle.posix_model.specs.declared.RetakeReply.TheVariants.{Answer, Cancel}
-use Rattle.posix_model.proofs.PendingLemmas.{either, Stays, calm_wake, calls_leave_pending}
+use Rattle.posix_model.proofs.PendingLemmas.{either, Stays, calm_wake}
+use Rattle.posix_model.proofs.PendingCalls.{adds_come, adds_call}
 use Rattle.posix_model.proofs.FaultSignals.{FaultsInScope, faults_in_scope}
-use Rattle.posix_model.proofs.JournalLemmas.{place_in}
-use Rattle.posix_model.proofs.WeightLemmas.{total_fewer}
 use Rattle.posix_model.proofs.NextLemmas.{some_pend}
-use Rattle.posix_model.proofs.Weights.{IsDue, next_due, signal_range, due_place}
-use Rattle.posix_model.proofs.PendingCounts.{Adds, sum_of, all_of, nothing_pends, adds_stays, adds_after, adds_pend, adds_cleared, sum_taken, scope_taken}
+use Rattle.posix_model.proofs.Weights.{IsDue, signal_range, due_place}
+use Rattle.posix_model.proofs.PendingCounts.{Adds, adds_stays, adds_after, adds_pend, adds_cleared, sum_taken, scope_taken}
 
 -- ---- an instruction
 
@@ -112,12 +98,13 @@ module _ (s : State) (t : ℕ) where
   adds_effect : (e : Effect) → FaultsInScope e → Adds s (by_effect s t e).state 1 0
   adds_effect (Goes pc x memory) scope = adds_stays s (by_effect s t (Goes pc x memory)).state 1 0 refl
   adds_effect Calls scope =
-      adds_stays s (by_effect s t Calls).state 1 0 (calls_leave_pending s t (call_number (s.threads t).registers) (arguments (s.threads t).registers))
+      let called = adds_call s t (call_number (s.threads t).registers) (arguments (s.threads t).registers) in
+      record { sum = called.sum; time = called.time; scope = called.scope }
   adds_effect (Faults sig) scope = adds_faulted s t sig scope
   adds_effect (Returns which) scope = adds_returned which
 
   -- an instruction adds one at most
-  adds_instruction : Adds s (instruction s t).state 1 0
+  pub adds_instruction : Adds s (instruction s t).state 1 0
   unfolding instruction
   adds_instruction =
       adds_effect (effect (s.threads t).registers.pc (s.threads t).registers.x s.memory) (faults_in_scope (s.threads t).registers.pc (s.threads t).registers.x s.memory)
@@ -160,7 +147,7 @@ module _ (s : State) (t sig count : ℕ) (in_scope : IsInScope sig) where
       (adds_stays s accepted.state count 0 refl) (adds_action (s.actions sig))
 
 -- a delivery adds nothing
-adds_delivered : (s : State) (d : Delivery) → PendsInScope s → IsDue s d → Adds s (delivered s (Some d)).state 0 0
+pub adds_delivered : (s : State) (d : Delivery) → PendsInScope s → IsDue s d → Adds s (delivered s (Some d)).state 0 0
 adds_delivered s (Acts t) scope due = adds_stays s (delivered s (Some (Acts t))).state 0 0 (stays_cancelled s t (target (s.threads t).standing))
 adds_delivered s (Gives t sig place) scope due =
     let number = signal_range sig due.2 in
@@ -172,15 +159,6 @@ adds_delivered s (Gives t sig place) scope due =
     record { sum = omega (arith, taken, more); time = given.time; scope = λ scope. given.scope (scope_taken s place sig scope) }
 
 -- ---- an arrival
-
-adds_signal : (g : Outcome) (sig count : ℕ) → IsInScope sig → Adds g.state (arrive_signal g sig count).state count 0
-adds_signal g sig count in_scope =
-    let pending : Outcome = record g { state = pend g.state 0 sig count } in
-    let heeded : Outcome = if ignores (g.state.actions sig) sig then dropped g sig count else pending in
-    either (λ (o : Outcome). Adds g.state o.state count 0) (sig == 9) (killed_by sig count g) heeded
-    (adds_stays g.state (killed_by sig count g).state count 0 refl)
-    (either (λ (o : Outcome). Adds g.state o.state count 0) (ignores (g.state.actions sig) sig) (dropped g sig count) pending
-    (adds_stays g.state (dropped g sig count).state count 0 refl) (adds_pend g.state 0 sig count in_scope))
 
 -- a tick
 stays_charge_to : (quantum : ℕ) (s : State) (t : ℕ) → Stays s (charge_to quantum s t)
@@ -205,10 +183,10 @@ adds_ring : (g : Outcome) → Adds g.state (ring g).state 1 0
 adds_ring g =
     let rung : Outcome = record { state = record g.state { alarm = None }; report = record g.report { alarm = true } } in
     either (λ (o : Outcome). Adds g.state o.state 1 0) (has_come g.state.now g.state.alarm) (arrive_signal rung 14 1) g
-    (adds_after g.state rung.state (arrive_signal rung 14 1).state 1 0 refl (adds_signal rung 14 1 refl)) (adds_stays g.state g.state 1 0 refl)
+    (adds_after g.state rung.state (arrive_signal rung 14 1).state 1 0 refl (adds_come rung 0 14 1 refl)) (adds_stays g.state g.state 1 0 refl)
 
 -- it adds one at most, the signal of the alarm
-adds_tick : (quantum : ℕ) (s : State) → Adds s (tick quantum (begun s)).state 1 1
+pub adds_tick : (quantum : ℕ) (s : State) → Adds s (tick quantum (begun s)).state 1 1
 adds_tick quantum s =
     let later : State = record s { now = s.now + 1 } in
     let charged : State = charge quantum later (chosen s) in
@@ -224,135 +202,11 @@ stays_serve_at g t (Input buffer size) =
     either (λ (o : Outcome). Stays g.state o.state) (length g.state.input == 0) g (read_into g t buffer (min size (length g.state.input))) refl refl
 stays_serve_at g t a = refl
 
-stays_serve_all : (g : Outcome) (ts : List ℕ) → Stays g.state (serve_all g ts).state
+pub stays_serve_all : (g : Outcome) (ts : List ℕ) → Stays g.state (serve_all g ts).state
 stays_serve_all g [] = refl
 stays_serve_all g (t ∷ ts) =
     let a = target (g.state.threads t).standing in stays_serve_all (serve_at g t a) ts ∙ stays_serve_at g t a
 
-stays_answer_all : (g : Outcome) (ts : List ℕ) → Stays g.state (answer_all g ts).state
+pub stays_answer_all : (g : Outcome) (ts : List ℕ) → Stays g.state (answer_all g ts).state
 stays_answer_all g [] = refl
 stays_answer_all g (t ∷ ts) = stays_answer_all (answer g t 0 0) ts
-
--- ---- entries
-
--- what comes is in scope
-abbrev ComesInScope : What → Type 0
-ComesInScope (Sig sig) = IsInScope sig
-ComesInScope Tick = Unit {0}
-ComesInScope (Data first len) = Unit {0}
-ComesInScope Eof = Unit {0}
-
-event_scope : (before : List Entry) (what : What) → IsEvent before what → ComesInScope what
-event_scope before (Sig sig) h = h
-event_scope before Tick h = tt
-event_scope before (Data first len) h = tt
-event_scope before Eof h = tt
-
-each_scope : (before es : List Entry) (i : ℕ) (e : Entry) → EachFollows before es → slice_get es i ≡ Some e → ComesInScope e.what
-each_scope before [] i e each is = let f : None ≡ Some e = is in absurd (cc)
-each_scope before (x ∷ es) zero e each is = subst (λ (y : Entry). ComesInScope y.what) (same_Some x e is) (event_scope before x.what each.0.event)
-each_scope before (x ∷ es) (suc i) e each is = each_scope (before ++ x ∷ []) es i e each.1 is
-
-entry_scope : (es : List Entry) (n : ℕ) (e : Entry) → EachFollows [] es → entry_at es n ≡ Some e → ComesInScope e.what
-entry_scope es n e each is = let place = place_in es n e is in each_scope [] es place.0 e each place.2
-
--- a signal in scope has one of the numbers of signals
-in_range : (sig : ℕ) → IsInScope sig → (1 ≤ sig) × (sig ≤ 31)
-in_range sig h =
-    let low = and_parts (nat_le 1 sig) (nat_le sig 31 && (nat_lt sig 18 || nat_lt 22 sig)) h in
-    let high = and_parts (nat_le sig 31) (nat_lt sig 18 || nat_lt 22 sig) low.1 in
-    (leb-true 1 sig low.0, leb-true sig 31 high.0)
-
--- more entries were taken
-module _ (taken : Taken) (count : ℕ) where
-  more_signals : (sig : ℕ) → 1 ≤ sig → sig ≤ 31
-      → total (λ u. taken (OfSignal u)) signals + count ≤ total (λ u. with_taken taken (OfSignal sig) count (OfSignal u)) signals
-  unfolding signals
-  more_signals sig low high =
-      total_fewer (λ u. taken (OfSignal u)) (λ u. with_taken taken (OfSignal sig) count (OfSignal u)) sig count 1 31
-      (λ u. either (λ n. taken (OfSignal u) ≤ n) (u == sig) (taken (OfSignal u) + count) (taken (OfSignal u)) (omega arith) (omega arith))
-      (let here : with_taken taken (OfSignal sig) count (OfSignal sig) ≡ taken (OfSignal sig) + count =
-      ap (λ b. if b then taken (OfSignal sig) + count else taken (OfSignal sig)) (eq-eqb sig sig refl) in
-      omega (arith, here))
-      low (omega arith)
-
-  more_taken : (what : What) → ComesInScope what → taken_in_all taken + count ≤ taken_in_all (with_taken taken (kind_of what) count)
-  more_taken (Sig sig) scope = let range = in_range sig scope in let more = more_signals sig range.0 range.1 in omega (arith, more)
-  more_taken Tick scope = omega arith
-  more_taken (Data first len) scope = omega arith
-  more_taken Eof scope = omega arith
-
--- ---- runs
-
--- what a run keeps
-record IsBounded (now : Moment) : Type 0 where
-  sum : sum_of now.state.pending ≤ now.instructions + taken_in_all now.taken
-  time : now.state.now ≤ now.taken OfTicks
-  scope : PendsInScope now.state
-
-bounded_on : (now next : Moment) (more ticks : ℕ) → Adds now.state next.state more ticks
-    → now.instructions + taken_in_all now.taken + more ≤ next.instructions + taken_in_all next.taken
-    → now.taken OfTicks + ticks ≤ next.taken OfTicks → IsBounded now → IsBounded next
-bounded_on now next more ticks adds entries times bounded =
-    let sum = adds.sum in
-    let before = bounded.sum in
-    let time = adds.time in
-    let early = bounded.time in
-    record { sum = omega (arith, sum, before, entries); time = omega (arith, time, early, times); scope = adds.scope bounded.scope }
-
-bounded_arrived : (rules : Rules) (now : Moment) (first count : ℕ) (at : Place) (entry : Entry) → ComesInScope entry.what → IsAlone (kind_of entry.what) count → IsBounded now
-    → IsBounded (record now { state = (arrived rules now.state first count at (Some entry)).state; taken = taken_by now.taken count (Some entry) })
-bounded_arrived rules now first count at entry scope alone bounded = by entry.what scope alone
-  where
-    next : What → Moment
-    next what = record now {
-      state = (arrived rules now.state first count at (Some (record entry { what = what }))).state;
-      taken = with_taken now.taken (kind_of what) count;
-    }
-
-    by : (what : What) → ComesInScope what → IsAlone (kind_of what) count → IsBounded (next what)
-    by (Sig sig) scope alone =
-        let more = more_taken now.taken count (Sig sig) scope in
-        bounded_on now (next (Sig sig)) count 0 (adds_signal (begun now.state) sig count scope) (omega (arith, more)) (omega arith) bounded
-    by Tick scope alone =
-        let more = more_taken now.taken count Tick scope in
-        bounded_on now (next Tick) 1 1 (adds_tick rules.settings.quantum now.state) (omega (arith, more, alone)) (omega (arith, alone)) bounded
-    by (Data start len) scope alone =
-        let more = more_taken now.taken count (Data start len) scope in
-        let joined : Outcome = record (begun now.state) { state = record now.state { input = now.state.input ++ take len (drop start rules.journal.bytes) } } in
-        bounded_on now (next (Data start len)) 0 0 (adds_stays now.state (next (Data start len)).state 0 0 (stays_serve_all joined (readers now.state)))
-        (omega (arith, more)) (omega arith) bounded
-    by Eof scope alone =
-        let more = more_taken now.taken count Eof scope in
-        let over : Outcome = record (begun now.state) { state = record now.state { is_input_over = true } } in
-        bounded_on now (next Eof) 0 0 (adds_stays now.state (next Eof).state 0 0 (stays_answer_all over (readers now.state))) (omega (arith, more)) (omega arith) bounded
-
-bounded_move : (rules : Rules) (now : Moment) (move : Move) → IsJournal rules.journal → IsBounded now → Allowed rules now move → IsBounded (moved rules now move)
-bounded_move rules now (Instr t) journal bounded allowed =
-    bounded_on now (moved rules now (Instr t)) 1 0 (adds_instruction now.state t) (omega arith) (omega arith) bounded
-bounded_move rules now (Arrive first count at) journal bounded may =
-    let scope = entry_scope rules.journal.entries first may.entry journal.each may.here in
-    subst (λ o. IsBounded (record now { state = (arrived rules now.state first count at o).state; taken = taken_by now.taken count o })) (sym may.here)
-    (bounded_arrived rules now first count at may.entry scope may.alone bounded)
-bounded_move rules now Deliver journal bounded allowed =
-    let s : State = now.state in
-    let adds = subst (λ o. Adds s (delivered s o).state 0 0) (sym allowed.2) (adds_delivered s allowed.1 bounded.scope (next_due s allowed.1 allowed.2)) in
-    bounded_on now (moved rules now Deliver) 0 0 adds (omega arith) (omega arith) bounded
-
-bounded_run : (rules : Rules) (now : Moment) (moves : List Move) → IsJournal rules.journal → IsBounded now → IsRun rules now moves → IsBounded (after rules now moves)
-bounded_run rules now [] journal bounded run = bounded
-bounded_run rules now (m ∷ ms) journal bounded run = bounded_run rules (moved rules now m) ms journal (bounded_move rules now m journal bounded run.0) run.1
-
-bounded_start : (memory : List ℕ) (entry : ℕ) → IsBounded (start memory entry)
-bounded_start memory entry = record {
-  sum = omega (arith, nothing_pends);
-  time = omega arith;
-  scope = λ place sig h. absurd (omega (arith, h));
-}
-
-pub pending_is_bounded : PendingIsBounded
-pending_is_bounded rules memory entry moves journal run =
-    let bounded = bounded_run rules (start memory entry) moves journal (bounded_start memory entry) run in
-    let sum = bounded.sum in
-    let whole = all_of (after rules (start memory entry) moves).state in
-    (omega (arith, sum, whole), bounded.time, bounded.scope)

@@ -36,7 +36,7 @@ goes_on : (rules : Rules) (now : Moment) (move : Move) → Allowed rules now mov
 goes_on rules now move allowed = record { move = move; allowed = allowed; open_ended = λ e ends. no_more rules now e move ends allowed }
 
 -- one entry of each kind may arrive alone
-one_alone : (kind : Kind) → IsAlone kind 1
+pub one_alone : (kind : Kind) → IsAlone kind 1
 one_alone (OfSignal s) = omega arith
 one_alone OfTicks = refl
 one_alone OfInput = refl
@@ -89,7 +89,7 @@ pub progress : Progress
 progress rules now journal within = found rules now now.state.over (due rules now) (next_delivery now.state) (chosen now.state) refl refl refl refl journal within
 
 -- a move keeps within the budget
-still_within : (rules : Rules) (now : Moment) (move : Move) → now.instructions ≤ rules.settings.budget → Allowed rules now move
+pub still_within : (rules : Rules) (now : Moment) (move : Move) → now.instructions ≤ rules.settings.budget → Allowed rules now move
     → (moved rules now move).instructions ≤ rules.settings.budget
 still_within rules now (Instr t) within a = let less = a.1 in omega (arith, less)
 still_within rules now (Arrive first count at) within a = within

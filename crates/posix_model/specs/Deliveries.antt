@@ -139,7 +139,7 @@ wait_ended g t (ATime until) = answer g t interrupted (until - g.state.now)
 wait_ended g t (Input buffer size) = answer g t interrupted 0
 wait_ended g t a = record g { state = made_ready g.state t }
 
--- a thread's wait ends, and it enters the handler
+-- a thread enters the handler
 abbrev pub entering : Outcome → ℕ → ℕ → ℕ → ℕ → Outcome
 entering g t sig at mask = record g { state = set_thread g.state t (in_handler (g.state.threads t) sig at mask) }
 

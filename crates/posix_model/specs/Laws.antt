@@ -69,14 +69,14 @@ pub record GoesOn (rules : Rules) (now : Moment) : Type 0 where
 abbrev pub Progress : Type 0
 Progress = (rules : Rules) (now : Moment) → IsJournal rules.journal → now.instructions ≤ rules.settings.budget → HasEnded rules now ⊎ GoesOn rules now
 
--- within the budget every run so far goes on to a whole run
+-- from a good state within the budget every run so far goes on to a whole run
 abbrev pub Completion : Type 0
 Completion =
     (rules : Rules) (now : Moment) → IsJournal rules.journal → IsGood now.state → now.instructions ≤ rules.settings.budget →
     (moves : List Move) × (ending : Ending) × IsWholeRun rules now moves ending
 
--- every stay ends: a delivery lowers the weight, an arrival raises it by 3 at most, and where nothing pends but signals
--- in scope it is 1,870 at most
+-- every stay ends: a delivery lowers the weight of a good state, an arrival raises it by 3 at most, and where nothing pends
+-- but signals in scope it is 1,870 at most
 pub record StaysEnd : Type 0 where
   pub delivery : (s : State) (d : Delivery) → IsGood s → next_delivery s ≡ Some d → weight (deliver s).state < weight s
   pub arrival : (rules : Rules) (s : State) (first count : ℕ) (at : Place) → weight (make rules s (Arrive first count at)).state ≤ weight s + 3

@@ -29,5 +29,6 @@ pub mod MutexExamples
 pub mod ConditionExamples
 pub mod SignalExamples
 pub mod ArrivalExamples
+pub mod KillExamples
 pub mod ExitExamples
 pub mod JournalExamples

@@ -6,6 +6,7 @@ ghost use Rattle.posix_model.specs.MutexExamples as mutexes;
 ghost use Rattle.posix_model.specs.ConditionExamples as conditions;
 ghost use Rattle.posix_model.specs.SignalExamples as signals;
 ghost use Rattle.posix_model.specs.ArrivalExamples as arrivals;
+ghost use Rattle.posix_model.specs.KillExamples as kills;
 ghost use Rattle.posix_model.specs.ExitExamples as exits;
 ghost use Rattle.posix_model.specs.JournalExamples as journals;
 
@@ -197,6 +198,36 @@ pub fn merged_count()
 /// A signal that is ignored is dropped where it comes, and KILL ends the process there.
 pub fn ignored_arrives()
     ensures { arrivals.IgnoredArrives }
+{}
+
+/// A signal that is ignored is dropped where it is sent.
+pub fn sent_in_vain()
+    ensures { kills.SentInVain }
+{}
+
+/// KILL ends the process where it is sent, and its sender is answered.
+pub fn kill_ends()
+    ensures { kills.KillEnds }
+{}
+
+/// An action that ignores its signal drops all that pends of it; the old action's number is answered.
+pub fn other_actions()
+    ensures { kills.OtherActions }
+{}
+
+/// Signals are added to the mask, taken away, or set in its place.
+pub fn masks()
+    ensures { kills.Masks }
+{}
+
+/// A signal pends on the thread to which it is sent, or on the process.
+pub fn sends()
+    ensures { kills.Sends }
+{}
+
+/// Which refusal of the calls of signals comes first.
+pub fn kill_refusals()
+    ensures { kills.KillRefusals }
 {}
 
 /// A tick is charged to the thread that ran, before others wake, and never to a FIFO one.

@@ -307,13 +307,14 @@ pub fn everyone_is_woken()
     ensures { EveryoneIsWoken }
 {}
 
-/// Within the budget every run so far goes on to a whole run.
+/// From a good state within the budget every run so far goes on to a whole run.
 #[tactic(auto, using(crate::proofs::RunLaws::completion))]
 pub fn completion()
     ensures { Completion }
 {}
 
-/// Every stay ends: a delivery lowers the weight, an arrival raises it by 3 at most, and it is 1,870 at most.
+/// Every stay ends: a delivery lowers the weight of a good state, an arrival raises it by 3 at most, and where nothing
+/// pends but signals in scope it is 1,870 at most.
 #[tactic(auto, using(crate::proofs::Weights::stays_end))]
 pub fn stays_end()
     ensures { StaysEnd }
@@ -326,7 +327,7 @@ pub fn plain_instructions_leave()
 
 /// The sum of all that pends is at most the instructions made and the entries taken together, the time is at most
 /// the ticks taken, and nothing pends but signals in scope.
-#[tactic(auto, using(crate::proofs::PendingSums::pending_is_bounded))]
+#[tactic(auto, using(crate::proofs::PendingMoves::pending_is_bounded))]
 pub fn pending_is_bounded()
     ensures { PendingIsBounded }
 {}
