@@ -15,13 +15,14 @@ use Rattle.posix_model.specs.Exits.{is_due_in, due_key, by_keys, exit_action, ne
 use Rattle.posix_model.specs.Deliveries.{faulted, pend, killed_by, is_free_for}
 use Rattle.posix_model.specs.Instructions.{returned, handler_returned, cleanup_returned, start_returned, told_return, segmentation_fault}
 use Rattle.posix_model.specs.Calls.{call}
+use Rattle.posix_model.specs.SignalCalls.{kill_calls}
 use Rattle.posix_model.specs.Good.{IsGood}
 use Rattle.posix_model.specs.Scheduling.{chosen}
 use Rattle.posix_model.specs.declared.Arguments.{Arguments}
 use Rattle.posix_model.specs.declared.Ending.TheVariants.{Exit}
 use Rattle.posix_model.proofs.GoodMoves.{instructions_keep_good}
 use Rattle.posix_model.proofs.ListLemmas.{each_put}
-use Rattle.posix_model.proofs.PendingLemmas.{calls_leave_pending}
+use Rattle.posix_model.proofs.PendingLemmas.{is_listed, calls_leave_pending}
 use Rattle.kernel_state.specs.View.{IsPrompt}
 use Rattle.kernel_state.specs.Kernels.{IsSteady}
 use Rattle.kernel_state.proofs.ViewLemmas.{IsPlain, IsPlainState}
@@ -97,11 +98,11 @@ prompt_return s t Start (Leaving value rounds next) plain calm ready is =
     subst (λ (g : Outcome). IsPrompt g.state) (sym (start_faults s t value rounds next plain is)) (prompt_fault s t segmentation_fault calm ready)
 
 module _ (s : State) (t : ℕ) (good : IsGood s) (first : chosen s ≡ Some t) (calm : s.pending ≡ none_pending) where
-  -- a call, whatever its number and its arguments
-  pub steady_call : (number : ℕ) (c : Arguments) → IsSteady (call s t number c).state
-  steady_call number c = record {
+  -- a call that is none of signals, whatever its number and its arguments
+  pub steady_call : (number : ℕ) (c : Arguments) → is_listed number kill_calls ≡ false → IsSteady (call s t number c).state
+  steady_call number c none = record {
     good = (instructions_keep_good s t good first).1 number c;
-    prompt = calm_prompt (call s t number c).state (ap (λ (x : (ℕ → ℕ → ℕ) × ℕ). x.0) (calls_leave_pending s t number c) ∙ calm);
+    prompt = calm_prompt (call s t number c).state (ap (λ (x : (ℕ → ℕ → ℕ) × ℕ). x.0) (calls_leave_pending s t number c none) ∙ calm);
   }
 
   pub steady_return : (which : Special) → IsPlainState s → IsSteady (returned s t which).state

@@ -1,5 +1,5 @@
 -- Whatever arrives keeps a good state good.
-use Rattle.std.proofs.Common.{◌≡◌, ◌≢◌, ◌∙◌, ap, sym, refl, subst, ℕ, ◌+◌, ◌<◌, Bool, true, false, ◌&&◌, ◌||◌, eqb, List, [], ◌∷◌, ◌++◌, length, take, drop, Option, Some, None}
+use Rattle.std.proofs.Common.{◌≡◌, ◌≢◌, ◌∙◌, ap, sym, refl, subst, arith, ℕ, ◌+◌, ◌<◌, ◌≤◌, Bool, true, false, ◌&&◌, ◌||◌, eqb, List, [], ◌∷◌, ◌++◌, length, take, drop, Option, Some, None}
 use Rattle.std.specs.Prelude.{◌==◌, if◌then◌else◌, nat_le, min}
 use Rattle.std.specs.Option.{ForSome}
 use Rattle.std.proofs.lemmas.Bool.{eq-eqb, ne_eqb, leb-false, and_parts, or_left, or_right, false_from_ne_true}
@@ -115,13 +115,14 @@ module _ (before : ℕ) where
       sym (ap (λ b. b || is_in u ts) (ne_eqb u t was.0)) ∙ listed was.1)
 
   -- the alarm goes off, or is still to come
-  good_ring : (g : Outcome) → IsGood (at_time before g.state) → ((u : ℕ) → is_late g.state.now (standings g.state u) ≡ false) → IsGood (ring g).state
-  good_ring g good none = by (has_come g.state.now g.state.alarm) refl
+  good_ring : (g : Outcome) → before ≤ g.state.now → IsGood (at_time before g.state) → ((u : ℕ) → is_late g.state.now (standings g.state u) ≡ false) → IsGood (ring g).state
+  good_ring g since good none = by (has_come g.state.now g.state.alarm) refl
     where
       waits : AreSoundWaits g.state.now (standings g.state)
       waits u = record {
         count = (good.waits u).count;
         later = is_later g.state.now (deadline_by (wait_of (standings g.state u))) (none u);
+        soon = λ until e. let soon = (good.waits u).soon until e in omega (arith, soon, since);
         some = (good.waits u).some;
       }
 
@@ -137,7 +138,19 @@ module _ (before : ℕ) where
           good_alike (at_time before g.state) g.state refl good good.ready good.joining good.mutexes good.conditions waits
           (record { later = is_later g.state.now g.state.alarm h; heeded = good.signals.heeded })
 
--- the waits that end leave the time
+-- what a thread is charged leaves the time, and so do the waits that end
+charge_now : (quantum : ℕ) (s : State) (o : Option ℕ) → (charge quantum s o).now ≡ s.now
+charge_now quantum s None = refl
+charge_now quantum s (Some t) = by (has_turn (s.threads t).policy)
+  where
+    turn : (b : Bool) → (if b then to_end s t else set_thread s t (record (s.threads t) { used = (s.threads t).used + 1 })).now ≡ s.now
+    turn true = refl
+    turn false = refl
+
+    by : (b : Bool) → (if b then charge_to quantum s t else s).now ≡ s.now
+    by true = turn (nat_le quantum ((s.threads t).used + 1))
+    by false = refl
+
 expire_at_now : (g : Outcome) (t : ℕ) (a : Target) → (expire_at g t a).state.now ≡ g.state.now
 expire_at_now g t (ConditionAt c) = ap (λ (s : State). s.now) (wake_leaves g t (Answer timed_out))
 expire_at_now g t a = refl
@@ -159,7 +172,8 @@ good_tick quantum g good =
     let charged : State = charge quantum later (chosen g.state) in
     let late : Outcome = record g { state = charged } in
     let here : IsGood (at_time before charged) = good_charged before quantum later (chosen g.state) good (λ t e. (chosen_ready g.state t good e).0) in
-    good_ring before (expire_all late (expired charged)) (good_expire_all before late (expired charged) here) (λ u.
+    let same : (expire_all late (expired charged)).state.now ≡ before + 1 = expire_all_now late (expired charged) ∙ charge_now quantum later (chosen g.state) in
+    good_ring before (expire_all late (expired charged)) (omega (arith, same)) (good_expire_all before late (expired charged) here) (λ u.
     ap (λ now. is_late now (standings (expire_all late (expired charged)).state u)) (expire_all_now late (expired charged))
     ∙ all_expired before late (expired charged) u charged.now here (in_expired charged before u here))
 

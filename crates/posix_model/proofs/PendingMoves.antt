@@ -51,7 +51,7 @@ entry_scope : (es : List Entry) (n : ℕ) (e : Entry) → EachFollows [] es → 
 entry_scope es n e each is = let place = place_in es n e is in each_scope [] es place.0 e each place.2
 
 -- a signal in scope has one of the numbers of signals
-in_range : (sig : ℕ) → IsInScope sig → (1 ≤ sig) × (sig ≤ 31)
+pub in_range : (sig : ℕ) → IsInScope sig → (1 ≤ sig) × (sig ≤ 31)
 in_range sig h =
     let low = and_parts (nat_le 1 sig) (nat_le sig 31 && (nat_lt sig 18 || nat_lt 22 sig)) h in
     let high = and_parts (nat_le sig 31) (nat_lt sig 18 || nat_lt 22 sig) low.1 in

@@ -1,5 +1,5 @@
 -- What a thread's standing says of what it waits for.
-use Rattle.std.proofs.Common.{◌≡◌, ◌∙◌, ap, sym, refl, ℕ, ◌<◌, Bool, true, false, arith, Option, Some, None}
+use Rattle.std.proofs.Common.{◌≡◌, ◌∙◌, ap, sym, refl, ℕ, ◌+◌, ◌^◌, ◌<◌, Bool, true, false, arith, Option, Some, None}
 use Rattle.std.specs.Prelude.{is_some}
 use Rattle.std.specs.Option.{ForSome}
 use Rattle.std.proofs.lemmas.Bool.{eqb-true}
@@ -89,6 +89,7 @@ pub steady : (now : ℕ) (st : Standing) → IsCount (count_due st) → deadline
 steady now st many timeless setless = record {
   count = many;
   later = for_none (deadline_by (wait_of st)) (λ until. now < until) timeless;
+  soon = for_none (deadline_by (wait_of st)) (λ until. until < now + 2 ^ 32) timeless;
   some = for_none (set_at (target st)) (λ set. 0 < set) setless;
 }
 

@@ -1,5 +1,5 @@
 -- What holds of every state that is reached, facet by facet: each reads what the threads are doing and one part of the state.
-use Rattle.std.specs.Prelude.{◌≡◌, ◌≤◌, ◌<◌, ℕ, Bool, true, false, List, [], Option, Some, None, is_some}
+use Rattle.std.specs.Prelude.{◌≡◌, ◌≤◌, ◌<◌, ℕ, ◌+◌, ◌^◌, Bool, true, false, List, [], Option, Some, None, is_some}
 use Rattle.std.specs.Option.{ForSome}
 use Rattle.thread_base.specs.Actions.{ignores}
 use Rattle.thread_base.specs.Holders.{is_held_by, count_of, is_free}
@@ -76,11 +76,12 @@ AreSoundConditions standing mutexes conditions = (c : ℕ) → IsSoundCondition 
 abbrev pub IsCount : ℕ → Type 0
 IsCount count = (1 ≤ count) × (count ≤ most_locks)
 
--- what a thread waits for: it may have its mutex as often as is due then, its time is still to come, and there is a signal
--- in its set (POSIX.1 pthread_cond_wait, sleep, sigwait)
+-- what a thread waits for: it may have its mutex as often as is due then, its time is still to come and within 2^32 ticks,
+-- and there is a signal in its set (POSIX.1 pthread_cond_wait, sleep, sigwait; the 2^32 ticks are this project's limit)
 pub record IsSoundWait (now : ℕ) (standing : Standing) : Type 0 where
   pub count : IsCount (count_due standing)
   pub later : ForSome (deadline_by (wait_of standing)) (λ until. now < until)
+  pub soon : ForSome (deadline_by (wait_of standing)) (λ until. until < now + 2 ^ 32)
   pub some : ForSome (set_at (target standing)) (λ set. 0 < set)
 
 -- every wait is sound

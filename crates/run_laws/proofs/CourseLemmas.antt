@@ -1,6 +1,6 @@
 -- Every whole run under a calm journal follows the course.
 use Rattle.std.proofs.Common.{◌≡◌, ◌∙◌, ap, sym, refl, subst, ℕ, eqb, List, [], ◌∷◌, ◌++◌, Option, Some, None, arith, append_assoc, inl, inr}
-use Rattle.std.specs.Prelude.{true, false, take, drop, nat_lt}
+use Rattle.std.specs.Prelude.{true, false, nat_lt}
 use Rattle.std.specs.List.{AllZip}
 use Rattle.std.proofs.lemmas.Bool.{lt-ltb, le-ltb, or_left, eq-eqb}
 use Rattle.std.proofs.lemmas.Option.{same_Some}
@@ -11,8 +11,6 @@ use Rattle.journal_text.specs.declared.entry.What.{What}
 use Rattle.journal_text.specs.declared.entry.What.TheVariants.{Sig, Tick, Data, Eof}
 use Rattle.posix_model.specs.State.{State}
 use Rattle.posix_model.specs.Scheduling.{chosen}
-use Rattle.posix_model.specs.Changes.{begun}
-use Rattle.posix_model.specs.Arrivals.{arrive_signal, tick, arrive_data, arrive_end}
 use Rattle.posix_model.specs.Deliveries.{Delivery, next_delivery}
 use Rattle.posix_model.specs.Journals.{kind_of, left_of_kind, entry_at}
 use Rattle.posix_model.specs.Laws.{IsSameMove, IsWholeRun, whole_text}
@@ -20,42 +18,15 @@ use Rattle.posix_model.specs.Lines.{lines}
 use Rattle.posix_model.specs.Runs.{Rules, Moment, Allowed, MayArrive, Ends, due, moved, after, arrived, taken_by}
 use Rattle.posix_model.specs.Trace.{switch_line, text, move_text, end_text}
 use Rattle.posix_model.specs.declared.Ending.{Ending}
-use Rattle.posix_model.specs.declared.Head.TheVariants.{ArriveSig, ArriveTick, ArriveData, ArriveEof}
 use Rattle.posix_model.specs.declared.Move.{Move}
 use Rattle.posix_model.specs.declared.Move.TheVariants.{Instr, Arrive, Deliver}
 use Rattle.posix_model.proofs.EndLemmas.{some_arrive, first_is_due, nothing_arrives, none_due, one_ending}
-use Rattle.posix_model.proofs.TextLemmas.{place_is_silent}
+use Rattle.posix_model.proofs.JournalLemmas.{left_ascends}
+use Rattle.posix_model.proofs.OneRun.{same_state, same_lines}
 use Rattle.run_laws.specs.Course.{turn, first_of, unless_over, next_move, IsCourse, AreApart, IsSettledFor, ArriveSettled, written, move_plain, plain_text, Follows, OneCourse, AllAlike}
-use Rattle.run_laws.proofs.EntryLemmas.{NoTwo, NoTwoReached, no_two_due, no_two_reached, still_no_two, left_ascends, one_alone}
+use Rattle.run_laws.proofs.EntryLemmas.{NoTwo, NoTwoReached, no_two_due, no_two_reached, still_no_two, one_alone}
 
 -- ---- where an entry was presented changes neither the state nor what is told
-
-state_by : (rules : Rules) (s : State) (first count : ℕ) (at other place : Place) (what : What)
-    → (arrived rules s first count at (Some (record { place = place; what = what }))).state
-    ≡ (arrived rules s first count other (Some (record { place = place; what = what }))).state
-state_by rules s first count at other place (Sig sig) = refl
-state_by rules s first count at other place Tick = refl
-state_by rules s first count at other place (Data start len) = refl
-state_by rules s first count at other place Eof = refl
-
-same_state : (rules : Rules) (s : State) (first count : ℕ) (at other : Place) (entry : Option Entry)
-    → (arrived rules s first count at entry).state ≡ (arrived rules s first count other entry).state
-same_state rules s first count at other None = refl
-same_state rules s first count at other (Some entry) = state_by rules s first count at other entry.place entry.what
-
-lines_by : (rules : Rules) (s : State) (first count : ℕ) (at other place : Place) (what : What) (memory : List ℕ)
-    → lines (arrived rules s first count at (Some (record { place = place; what = what }))).report memory
-    ≡ lines (arrived rules s first count other (Some (record { place = place; what = what }))).report memory
-lines_by rules s first count at other place (Sig sig) memory = place_is_silent at other (ArriveSig first count sig) (arrive_signal (begun s) sig count) memory
-lines_by rules s first count at other place Tick memory = place_is_silent at other (ArriveTick first) (tick rules.settings.quantum (begun s)) memory
-lines_by rules s first count at other place (Data start len) memory =
-    place_is_silent at other (ArriveData first len) (arrive_data (begun s) (take len (drop start rules.journal.bytes))) memory
-lines_by rules s first count at other place Eof memory = place_is_silent at other (ArriveEof first) (arrive_end (begun s)) memory
-
-same_lines : (rules : Rules) (s : State) (first count : ℕ) (at other : Place) (entry : Option Entry) (memory : List ℕ)
-    → lines (arrived rules s first count at entry).report memory ≡ lines (arrived rules s first count other entry).report memory
-same_lines rules s first count at other None memory = refl
-same_lines rules s first count at other (Some entry) memory = lines_by rules s first count at other entry.place entry.what memory
 
 written_by : (rules : Rules) (s : State) (first count : ℕ) (at other place : Place) (what : What) (memory : List ℕ)
     → written (arrived rules s first count at (Some (record { place = place; what = what }))).report memory

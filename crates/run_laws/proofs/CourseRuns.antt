@@ -9,28 +9,22 @@ use Rattle.journal_text.specs.Valid.{IsJournal}
 use Rattle.posix_model.specs.Scheduling.{chosen}
 use Rattle.posix_model.specs.Deliveries.{Delivery, next_delivery}
 use Rattle.posix_model.specs.Good.{IsGood}
-use Rattle.posix_model.specs.Journals.{Kind, OfSignal, OfTicks, OfInput, kind_of}
+use Rattle.posix_model.specs.Journals.{kind_of}
 use Rattle.posix_model.specs.Laws.{IsWholeRun}
-use Rattle.posix_model.specs.Runs.{Rules, Moment, Allowed, IsTurnOf, IsAlone, MayArrive, Ends, due, moved, after}
+use Rattle.posix_model.specs.Runs.{Rules, Moment, Allowed, IsTurnOf, MayArrive, Ends, due, moved, after}
 use Rattle.posix_model.specs.Start.{start}
 use Rattle.posix_model.specs.declared.Ending.{Ending}
 use Rattle.posix_model.specs.declared.Move.{Move}
 use Rattle.posix_model.specs.declared.Move.TheVariants.{Instr, Arrive, Deliver}
 use Rattle.posix_model.proofs.GoodMoves.{goodness}
 use Rattle.posix_model.proofs.EndLemmas.{one_ending}
-use Rattle.posix_model.proofs.RunLaws.{progress}
+use Rattle.posix_model.proofs.RunLaws.{progress, one_alone, still_within}
 use Rattle.posix_model.proofs.TraceLemmas.{moves_left, moves_fall}
 use Rattle.run_laws.specs.Course.{turn, first_of, unless_over, next_move, IsCourse, IsCalm, CourseExists, OneCourseFromStart}
 use Rattle.run_laws.proofs.EntryLemmas.{lowest_is_next, starts_calm}
 use Rattle.run_laws.proofs.CourseLemmas.{place, one_is_next, one_course}
 
 -- ---- the next move of the course is allowed
-
--- one entry of each kind may arrive alone
-one_alone : (kind : Kind) → IsAlone kind 1
-one_alone (OfSignal s) = omega arith
-one_alone OfTicks = refl
-one_alone OfInput = refl
 
 -- the lowest entry that is due may arrive alone
 lowest_arrives : (rules : Rules) (now : Moment) (n : ℕ) (ns : List ℕ) → IsJournal rules.journal → now.state.over ≡ None → due rules now ≡ n ∷ ns
@@ -82,13 +76,6 @@ none_ends rules now journal within none =
     ]
 
 -- ---- the course
-
--- a move keeps within the budget
-still_within : (rules : Rules) (now : Moment) (move : Move) → now.instructions ≤ rules.settings.budget → Allowed rules now move
-    → (moved rules now move).instructions ≤ rules.settings.budget
-still_within rules now (Instr t) within a = let less = a.1 in omega (arith, less)
-still_within rules now (Arrive first count at) within a = within
-still_within rules now Deliver within a = within
 
 -- two courses are one
 one_list : (rules : Rules) (now : Moment) (course other : List Move) → IsCourse rules now course → IsCourse rules now other → other ≡ course

@@ -1,67 +1,20 @@
 -- Which entries of a journal are left and due: the lowest one is the next of its kind, and where entries are apart one at most is due.
-use Rattle.std.proofs.Common.{◌≡◌, ◌∙◌, ap, sym, refl, subst, ℕ, zero, suc, ◌+◌, ◌-◌, ◌<◌, ◌≤◌, inl, inr, List, [], ◌∷◌, ◌++◌, length, drop, take, Bool, true, false, Some, None, arith, filter}
-use Rattle.std.specs.Prelude.{◌==◌, ◌&&◌, nat_lt, slice_get}
+use Rattle.std.proofs.Common.{◌≡◌, ◌∙◌, ap, sym, refl, subst, ℕ, zero, suc, ◌+◌, ◌≤◌, inl, inr, List, [], ◌∷◌, length, take, Bool, true, false, Some, arith}
+use Rattle.std.specs.Prelude.{◌==◌}
 use Rattle.std.specs.List.{AllByRecursion}
-use Rattle.std.proofs.lemmas.Bool.{cases_Bool, cases_lt, cond_both, cond-true, cond-false, or_parts, or_cases, or_left, or_right, eq-eqb, ne_eqb, eqb-true, ltb-false}
-use Rattle.std.proofs.lemmas.Option.{same_Some}
-use Rattle.std.proofs.lemmas.List.{length_push, drop-drop}
+use Rattle.std.proofs.lemmas.Bool.{cases_lt, or_cases, or_left, or_right, eq-eqb, eqb-true}
 use Rattle.thread_base.specs.Orders.{is_in}
 use Rattle.journal_text.specs.declared.entry.Entry.{Entry}
-use Rattle.journal_text.specs.Contents.{is_before_entry}
-use Rattle.journal_text.specs.Valid.{IsJournal, MayFollow, EachFollows}
-use Rattle.posix_model.specs.Journals.{Kind, kind_of, is_kind, Taken, with_taken, numbers_from, left_of_kind, untaken, reached, entry_at, is_reached_as}
+use Rattle.journal_text.specs.Valid.{IsJournal}
+use Rattle.posix_model.specs.Journals.{Kind, kind_of, Taken, with_taken, numbers_from, left_of_kind, untaken, reached, entry_at, is_reached_as}
 use Rattle.posix_model.specs.Runs.{Rules, Moment, Allowed, due, due_by, is_waiting, moved, taken_by}
 use Rattle.posix_model.specs.Start.{start}
 use Rattle.posix_model.specs.declared.Move.{Move}
 use Rattle.posix_model.specs.declared.Move.TheVariants.{Instr, Arrive, Deliver}
-use Rattle.posix_model.proofs.JournalLemmas.{Ascends, is_kind_same, place_in, in_untaken, untaken_from, untaken_ascends, in_reached, reached_from}
+use Rattle.posix_model.proofs.JournalLemmas.{Ascends, ascend_filter, first_least, in_drop_less, first_member, left_entry, left_ascends, reached_before, more_taken, in_untaken, untaken_from, untaken_ascends, in_reached, reached_from}
 use Rattle.run_laws.specs.Course.{AreApart}
 
 -- ---- lists of numbers
-
-all_weaken : (P Q : ℕ → Type 0) → ((u : ℕ) → P u → Q u) → (xs : List ℕ) → AllByRecursion P xs → AllByRecursion Q xs
-all_weaken P Q f [] all = tt
-all_weaken P Q f (x ∷ xs) all = (f x all.0, all_weaken P Q f xs all.1)
-
-all_filter : (P : ℕ → Type 0) (test : ℕ → Bool) (xs : List ℕ) → AllByRecursion P xs → AllByRecursion P (filter test xs)
-all_filter P test [] all = tt
-all_filter P test (x ∷ xs) all =
-    let rest = all_filter P test xs all.1 in
-    cond_both (test x) (x ∷ filter test xs) (filter test xs) (λ ys. AllByRecursion P ys) (λ e. (all.0, rest)) (λ e. rest)
-
-all_at : (P : ℕ → Type 0) (xs : List ℕ) (n : ℕ) → AllByRecursion P xs → is_in n xs ≡ true → P n
-all_at P [] n all h = let e : false ≡ true = h in absurd (cc)
-all_at P (x ∷ xs) n all h =
-    elim (or_cases (n == x) (is_in n xs) h) [
-      | inl same ↦ subst P (sym (eqb-true n x same)) all.0
-      | inr rest ↦ all_at P xs n all.1 rest
-    ]
-
-ascend_filter : (test : ℕ → Bool) (xs : List ℕ) → Ascends xs → Ascends (filter test xs)
-ascend_filter test [] asc = tt
-ascend_filter test (x ∷ xs) asc =
-    let rest = ascend_filter test xs asc.1 in
-    cond_both (test x) (x ∷ filter test xs) (filter test xs) Ascends (λ e. (all_filter (λ u. x < u) test xs asc.0, rest)) (λ e. rest)
-
-ascend_drop : (count : ℕ) (xs : List ℕ) → Ascends xs → Ascends (drop count xs)
-ascend_drop zero xs asc = asc
-ascend_drop (suc count) [] asc = tt
-ascend_drop (suc count) (x ∷ xs) asc = ascend_drop count xs asc.1
-
--- no member is less than the first
-first_least : (x : ℕ) (xs : List ℕ) (n : ℕ) → Ascends (x ∷ xs) → is_in n (x ∷ xs) ≡ true → x ≤ n
-first_least x xs n asc h =
-    all_at (λ u. x ≤ u) (x ∷ xs) n (omega arith, all_weaken (λ u. x < u) (λ u. x ≤ u) (λ u l. omega arith) xs asc.0) h
-
-in_drop : (count : ℕ) (xs : List ℕ) (n : ℕ) → is_in n (drop count xs) ≡ true → is_in n xs ≡ true
-in_drop zero xs n h = h
-in_drop (suc count) [] n h = h
-in_drop (suc count) (x ∷ xs) n h = or_right (n == x) (is_in n xs) (in_drop count xs n h)
-
-in_drop_less : (a b : ℕ) (xs : List ℕ) (n : ℕ) → a ≤ b → is_in n (drop b xs) ≡ true → is_in n (drop a xs) ≡ true
-in_drop_less a b xs n le h =
-    let more : a + (b - a) ≡ b = omega (arith, le) in
-    in_drop (b - a) (drop a xs) n (ap (is_in n) (drop-drop (b - a) a xs) ∙ ap (λ c. is_in n (drop c xs)) more ∙ h)
 
 -- the first of a list is in it
 first_in : (x : ℕ) (xs : List ℕ) → is_in x (x ∷ xs) ≡ true
@@ -74,11 +27,6 @@ only n x h =
       | inl same ↦ eqb-true n x same
       | inr none ↦ let e : false ≡ true = none in absurd (cc)
     ]
-
--- a list with a member has a first one
-first_member : (xs : List ℕ) (n : ℕ) → is_in n xs ≡ true → (m : ℕ) × (rest : List ℕ) × (xs ≡ m ∷ rest)
-first_member [] n h = let e : false ≡ true = h in absurd (cc)
-first_member (x ∷ xs) n h = (x, xs, refl)
 
 -- no two numbers are in a list
 abbrev pub NoTwo : List ℕ → Type 0
@@ -111,107 +59,7 @@ one_alone P (x ∷ y ∷ ns) (suc (suc count)) some enough asc all none =
     let less = asc.0.0 in
     omega (arith, same, less))
 
--- ---- the entries of a kind
-
-numbers_above : (kind : Kind) (n : ℕ) (es : List Entry) → AllByRecursion (λ u. n ≤ u) (numbers_from kind n es)
-numbers_above kind n [] = tt
-numbers_above kind n (e ∷ es) =
-    let others = numbers_from kind (n + 1) es in
-    let rest = all_weaken (λ u. n + 1 ≤ u) (λ u. n ≤ u) (λ u h. omega arith) others (numbers_above kind (n + 1) es) in
-    cond_both (is_kind kind (kind_of e.what)) (n ∷ others) others (λ xs. AllByRecursion (λ u. n ≤ u) xs) (λ is. (omega arith, rest)) (λ other. rest)
-
-numbers_ascend : (kind : Kind) (n : ℕ) (es : List Entry) → Ascends (numbers_from kind n es)
-numbers_ascend kind n [] = tt
-numbers_ascend kind n (e ∷ es) =
-    let others = numbers_from kind (n + 1) es in
-    let rest = numbers_ascend kind (n + 1) es in
-    let above = all_weaken (λ u. n + 1 ≤ u) (λ u. n < u) (λ u h. omega arith) others (numbers_above kind (n + 1) es) in
-    cond_both (is_kind kind (kind_of e.what)) (n ∷ others) others Ascends (λ is. (above, rest)) (λ other. rest)
-
--- the entry of a number of a kind is of the kind
-number_entry : (kind : Kind) (n : ℕ) (es : List Entry) (m : ℕ) → is_in m (numbers_from kind n es) ≡ true
-    → (i : ℕ) × (e : Entry) × (m ≡ n + i) × (slice_get es i ≡ Some e) × (kind ≡ kind_of e.what)
-number_entry kind n [] m h = let e : false ≡ true = h in absurd (cc)
-number_entry kind n (e ∷ es) m h =
-    let others = numbers_from kind (n + 1) es in
-    elim (cases_Bool (is_kind kind (kind_of e.what))) [
-      | inl is ↦
-          elim (or_cases (m == n) (is_in m others) (sym (ap (is_in m) (cond-true (is_kind kind (kind_of e.what)) (n ∷ others) others is)) ∙ h)) [
-            | inl same ↦ (let at = eqb-true m n same in (0, e, omega (arith, at), refl, is_kind_same kind (kind_of e.what) is))
-            | inr rest ↦ next (number_entry kind (n + 1) es m rest)
-          ]
-      | inr other ↦ next (number_entry kind (n + 1) es m (sym (ap (is_in m) (cond-false (is_kind kind (kind_of e.what)) (n ∷ others) others other)) ∙ h))
-    ]
-  where
-    next : (i : ℕ) × (x : Entry) × (m ≡ n + 1 + i) × (slice_get es i ≡ Some x) × (kind ≡ kind_of x.what)
-        → (i : ℕ) × (x : Entry) × (m ≡ n + i) × (slice_get (e ∷ es) i ≡ Some x) × (kind ≡ kind_of x.what)
-    next found = let at = found.2 in (suc found.0, found.1, omega (arith, at), found.3, found.4)
-
--- the entry of a number stands there in the list
-entry_of_next : (es : List Entry) (i : ℕ) → entry_at es (1 + i) ≡ slice_get es i
-entry_of_next es i =
-    let back : 1 + i - 1 ≡ i = omega arith in
-    cond-false (1 + i == 0) None (slice_get es (1 + i - 1)) (ne_eqb (1 + i) 0 (λ e. omega (arith, e))) ∙ ap (slice_get es) back
-
--- a number of a kind that is left has an entry of the kind
-left_entry : (es : List Entry) (taken : Taken) (kind : Kind) (m : ℕ) → is_in m (left_of_kind es taken kind) ≡ true
-    → (e : Entry) × (entry_at es m ≡ Some e) × (kind ≡ kind_of e.what)
-left_entry es taken kind m h =
-    let found = number_entry kind 1 es m (in_drop (taken kind) (numbers_from kind 1 es) m h) in
-    (found.1, ap (entry_at es) found.2 ∙ entry_of_next es found.0 ∙ found.3, found.4)
-
--- what is left of a kind ascends
-pub left_ascends : (es : List Entry) (taken : Taken) (kind : Kind) → Ascends (left_of_kind es taken kind)
-left_ascends es taken kind = ascend_drop (taken kind) (numbers_from kind 1 es) (numbers_ascend kind 1 es)
-
--- ---- the places of a journal never fall
-
-pushed : (before : List Entry) (e : Entry) → slice_get (before ++ e ∷ []) (length before) ≡ Some e
-pushed [] e = refl
-pushed (x ∷ before) e = pushed before e
-
-last_of : (before : List Entry) (e : Entry) → slice_get (before ++ e ∷ []) (length (before ++ e ∷ []) - 1) ≡ Some e
-last_of before e =
-    let long = length_push before e in
-    let last : length (before ++ e ∷ []) - 1 ≡ length before = omega (arith, long) in
-    ap (slice_get (before ++ e ∷ [])) last ∙ pushed before e
-
--- the place of an entry is not before that of the one before it
-next_place : (before : List Entry) (x e : Entry) → MayFollow (before ++ x ∷ []) e → x.place.n ≤ e.place.n
-next_place before x e may =
-    let before_it = sym (ap (is_before_entry e.place) (last_of before x)) ∙ may.order in
-    let order = or_parts (nat_lt e.place.n x.place.n) ((e.place.n == x.place.n) && nat_lt e.place.k x.place.k) before_it in
-    ltb-false e.place.n x.place.n order.0
-
-least_place : (before : List Entry) (x : Entry) (es : List Entry) (j : ℕ) (b : Entry) → EachFollows (before ++ x ∷ []) es → slice_get es j ≡ Some b → x.place.n ≤ b.place.n
-least_place before x [] j b each is = let e : None ≡ Some b = is in absurd (cc)
-least_place before x (e ∷ es) zero b each is = subst (λ y. x.place.n ≤ y.place.n) (same_Some e b is) (next_place before x e each.0)
-least_place before x (e ∷ es) (suc j) b each is =
-    let here = next_place before x e each.0 in
-    let there = least_place (before ++ x ∷ []) e es j b each.1 is in
-    omega (arith, here, there)
-
-places_rise : (before es : List Entry) (i j : ℕ) (a b : Entry) → EachFollows before es → slice_get es i ≡ Some a → slice_get es j ≡ Some b → i ≤ j → a.place.n ≤ b.place.n
-places_rise before [] i j a b each first second le = let e : None ≡ Some a = first in absurd (cc)
-places_rise before (e ∷ es) zero zero a b each first second le =
-    subst (λ x. a.place.n ≤ x.place.n) (sym (same_Some e a first) ∙ same_Some e b second) (omega arith)
-places_rise before (e ∷ es) zero (suc j) a b each first second le =
-    subst (λ x. x.place.n ≤ b.place.n) (same_Some e a first) (least_place before e es j b each.1 second)
-places_rise before (e ∷ es) (suc i) zero a b each first second le = absurd (omega (arith, le))
-places_rise before (e ∷ es) (suc i) (suc j) a b each first second le = places_rise (before ++ e ∷ []) es i j a b each.1 first second (omega (arith, le))
-
--- what comes before an entry whose place is reached is reached too
-reached_before : (es : List Entry) (taken : Taken) (instructions n m : ℕ) (e : Entry) → EachFollows [] es → is_in m (untaken es taken) ≡ true → entry_at es m ≡ Some e
-    → m ≤ n → is_in n (reached es taken instructions) ≡ true → is_in m (reached es taken instructions) ≡ true
-reached_before es taken instructions n m e each left here low h =
-    let was = (in_reached es taken instructions n h).1 in
-    let one = place_in es m e here in
-    let other = place_in es n was.0 was.1 in
-    let a = one.1 in
-    let b = other.1 in
-    let rise = places_rise [] es one.0 other.0 e was.0 each one.2 other.2 (omega (arith, low, a, b)) in
-    let reach = was.2 in
-    reached_from es taken instructions m e left here (omega (arith, rise, reach))
+-- ---- the entries whose places are reached
 
 reached_ascends : (es : List Entry) (taken : Taken) (instructions : ℕ) → Ascends (reached es taken instructions)
 unfolding reached
@@ -353,9 +201,6 @@ due_none (x ∷ xs) left waiting e = e
 none_reached : (rules : Rules) (now : Moment) → due rules now ≡ [] → reached rules.journal.entries now.taken now.instructions ≡ []
 unfolding due
 none_reached rules now e = due_none (reached rules.journal.entries now.taken now.instructions) (untaken rules.journal.entries now.taken) (is_waiting now.state) e
-
-more_taken : (taken : Taken) (kind k : Kind) (count : ℕ) → taken k ≤ with_taken taken kind count k
-more_taken taken kind k count = cond_both (is_kind k kind) (taken k + count) (taken k) (λ n. taken k ≤ n) (λ e. omega arith) (λ e. omega arith)
 
 -- what is reached where more is taken was reached before
 still_reached : (es : List Entry) (taken : Taken) (kind : Kind) (count instructions n : ℕ) → is_in n (reached es (with_taken taken kind count) instructions) ≡ true

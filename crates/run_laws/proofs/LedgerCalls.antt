@@ -1,8 +1,7 @@
--- What leaves all that a ledger reads but the main line: calls, and the ends of waits.
-use Rattle.std.proofs.Common.{◌≡◌, ◌∙◌, refl, ap, sym, subst, ℕ, ◌-◌, Bool, true, false, not, List, [], ◌∷◌, ◌++◌, Option, Some, None, length}
-use Rattle.std.specs.Prelude.{◌==◌, slice_index, ◌||◌, if◌then◌else◌, min, is_some, nat_lt}
+-- What leaves all that a ledger reads but the main line: calls but those of signals, and the ends of waits.
+use Rattle.std.proofs.Common.{◌≡◌, ◌∙◌, refl, ap, ℕ, ◌-◌, Bool, not, List, [], ◌∷◌, Option, Some, None, length}
+use Rattle.std.specs.Prelude.{◌==◌, ◌||◌, if◌then◌else◌, min, is_some, nat_lt}
 use Rattle.std.specs.List.{AllByRecursion}
-use Rattle.std.proofs.lemmas.Bool.{eqb-true}
 use Rattle.thread_base.specs.Holders.{is_held_by, count_of, is_free}
 use Rattle.thread_base.specs.Objects.{new_condition}
 use Rattle.thread_base.specs.Orders.{is_nil, without}
@@ -16,8 +15,8 @@ use Rattle.posix_model.specs.Mutexes.{reply_due, set_mutex, hand_off, best_waite
 use Rattle.posix_model.specs.Threads.{exists, free_number}
 use Rattle.posix_model.specs.Conditions.{set_condition, is_other, is_used, leave, wake_from, wake, wake_all, in_order, next_woken}
 use Rattle.posix_model.specs.Scheduling.{eff}
-use Rattle.posix_model.specs.Replies.{Called, Row, Entry, values, refused, refusing, row_of}
-use Rattle.posix_model.specs.Calls.{most_written, written, write, cannot_start, is_taken, created, create, join_by, join, detached_by, detach, signal_calls, thread_calls, sync_calls, call_row}
+use Rattle.posix_model.specs.Replies.{Called, Row, Entry, values, refused, refusing}
+use Rattle.posix_model.specs.Calls.{most_written, written, write, cannot_start, is_taken, created, create, join_by, join, detached_by, detach, thread_calls}
 use Rattle.posix_model.specs.MutexCalls.{new_mutex, cannot_init, is_checked, is_full, mutex_init, destroy_of, take, queue, is_open_to, lock_of, trylock_of, released, unlock_of, mutex_calls}
 use Rattle.posix_model.specs.ConditionCalls.{await_condition, wait_and_release, cond_init, cond_destroy_of, cond_wait_of, wake_one, cond_signal_of, cond_broadcast_of, condition_calls}
 use Rattle.posix_model.specs.declared.Arguments.{Arguments}
@@ -26,7 +25,6 @@ use Rattle.posix_model.specs.declared.RetakeReply.{RetakeReply}
 use Rattle.posix_model.specs.declared.RetakeReply.TheVariants.{Answer, Cancel}
 use Rattle.posix_model.specs.declared.Wait.TheVariants.{Cond}
 use Rattle.posix_model.proofs.PendingLemmas.{either}
-use Rattle.run_laws.specs.Ledger.{is_zero, sent, share}
 
 -- what a ledger reads of a report but the main line, and what pends
 abbrev pub told_of : Report → Bool × ℕ × List ℕ
@@ -39,11 +37,11 @@ kept_of g = (g.state.pending, told_of g.report)
 abbrev pub Keeps : Outcome → Outcome → Type 0
 Keeps g h = kept_of h ≡ kept_of g
 
-abbrev CallKeeps : State → Called → Type 0
+abbrev pub CallKeeps : State → Called → Type 0
 CallKeeps s called = Keeps (begun s) called.outcome
 
 -- a row leaves it
-abbrev IsCalm : Row → Type 0
+abbrev pub IsCalm : Row → Type 0
 IsCalm row = (s : State) (t : ℕ) (c : Arguments) → CallKeeps s (row s t c)
 
 calm_refusing : (s : State) (t : ℕ) (refusals : List (Bool × Errno)) (effect : Called) → CallKeeps s effect → CallKeeps s (refusing s t refusals effect)
@@ -154,15 +152,10 @@ calm_cond_broadcast_of s t None = refl
 calm_cond_broadcast_of s t (Some condition) = keeps_wake_all (begun s) (in_order (eff s) condition.waiters)
 
 -- each row of a list leaves it
-abbrev AreCalm : List Entry → Type 0
+abbrev pub AreCalm : List Entry → Type 0
 AreCalm entries = AllByRecursion (λ (entry : Entry). IsCalm entry.1) entries
 
-calm_row_of : (number : ℕ) (entries others : List Entry) → AreCalm entries → IsCalm (row_of others number) → IsCalm (row_of (entries ++ others) number)
-calm_row_of number [] others rows more s t c = more s t c
-calm_row_of number (entry ∷ entries) others rows more s t c =
-    either (CallKeeps s) (number == entry.0) (entry.1 s t c) (row_of (entries ++ others) number s t c) (rows.0 s t c) (calm_row_of number entries others rows.1 more s t c)
-
-calm_write : IsCalm write
+pub calm_write : IsCalm write
 calm_write s t c =
     calm_refusing s t ((not ((c.a0 == 1) || (c.a0 == 2)), EBADF) ∷ (not (fits (length s.memory) c.a1 c.a2), EFAULT) ∷ []) (written s t c (min c.a2 most_written))
     (calm_written s t c (min c.a2 most_written))
@@ -188,13 +181,10 @@ calm_cond_init : IsCalm cond_init
 calm_cond_init s t c =
     calm_refusing s t ((not (nat_lt c.a0 256), EINVAL) ∷ (is_some (s.conditions c.a0), EBUSY) ∷ []) (values (begun (set_condition s c.a0 (Some new_condition))) t 0 0) refl
 
-calm_signal_calls : AreCalm signal_calls
-calm_signal_calls = (calm_write, tt)
-
-calm_thread_calls : AreCalm thread_calls
+pub calm_thread_calls : AreCalm thread_calls
 calm_thread_calls = (λ s t c. refl, (calm_create, (λ s t c. refl, (calm_join, (calm_detach, (λ s t c. refl, (λ s t c. refl, tt)))))))
 
-calm_mutex_calls : AreCalm mutex_calls
+pub calm_mutex_calls : AreCalm mutex_calls
 calm_mutex_calls = (
   calm_mutex_init,
   (
@@ -209,7 +199,7 @@ calm_mutex_calls = (
   ),
 )
 
-calm_condition_calls : AreCalm condition_calls
+pub calm_condition_calls : AreCalm condition_calls
 calm_condition_calls = (
   calm_cond_init,
   (
@@ -223,38 +213,3 @@ calm_condition_calls = (
     ),
   ),
 )
-
--- a call leaves it
-pub keeps_call : (s : State) (t number : ℕ) (c : Arguments) → Keeps (begun s) (call_row s t number c).outcome
-unfolding call_row
-keeps_call s t number =
-    calm_row_of number signal_calls (thread_calls ++ sync_calls) calm_signal_calls
-    (calm_row_of number thread_calls sync_calls calm_thread_calls
-    (calm_row_of number mutex_calls condition_calls calm_mutex_calls
-    (calm_row_of number condition_calls [] calm_condition_calls (λ r u c. refl))))
-    s t
-
--- the calls that send a signal are not in the table, so they answer no 0
-not_sent : (s : State) (t : ℕ) (c : Arguments) → (is_zero (call_row s t 290 c).reply ≡ false) × (is_zero (call_row s t 291 c).reply ≡ false)
-unfolding call_row
-not_sent s t c = (refl, refl)
-
-pub sends_none : (s : State) (t number sig : ℕ) (c : Arguments) (args : List ℕ)
-    → (if is_zero (call_row s t number c).reply then sent sig number args else 0) ≡ 0
-sends_none s t number sig c args = by (number == 290) (number == 291) refl refl
-  where
-    zero : Bool
-    zero = is_zero (call_row s t number c).reply
-
-    by : (a b : Bool) → number == 290 ≡ a → number == 291 ≡ b
-        → (if zero then (if number == 290 then share sig (slice_index args 1) 1 else if number == 291 then share sig (slice_index args 0) 1 else 0) else 0) ≡ 0
-    by true b is e =
-        let none : zero ≡ false = subst (λ n. is_zero (call_row s t n c).reply ≡ false) (sym (eqb-true number 290 is)) (not_sent s t c).0 in
-        ap (λ z. if z then sent sig number args else 0) none
-    by false true not is =
-        let none : zero ≡ false = subst (λ n. is_zero (call_row s t n c).reply ≡ false) (sym (eqb-true number 291 is)) (not_sent s t c).1 in
-        ap (λ z. if z then sent sig number args else 0) none
-    by false false not e =
-        either (λ n. n ≡ 0) zero (sent sig number args) 0
-        (ap (λ a. if a then share sig (slice_index args 1) 1 else if number == 291 then share sig (slice_index args 0) 1 else 0) not
-        ∙ ap (λ b. if b then share sig (slice_index args 0) 1 else 0) e) refl

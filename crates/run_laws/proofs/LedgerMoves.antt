@@ -1,11 +1,9 @@
 -- What each move adds to the ledger of a signal: what comes is what goes and what still pends.
-use Rattle.std.proofs.Common.{◌≡◌, ◌∙◌, ◌⊎◌, refl, sym, ap, subst, arith, inl, inr, ℕ, ◌+◌, ◌≤◌, Bool, true, false, List, [], ◌∷◌, ◌++◌, length, take, drop, min, Option, Some, None}
-use Rattle.std.specs.Prelude.{if◌then◌else◌, ◌==◌, ◌&&◌, ◌||◌, not, nat_lt, nat_le, replicate, slice_index}
-use Rattle.std.proofs.lemmas.List.{length-replicate}
-use Rattle.std.proofs.lemmas.Bool.{leb-true, and_parts}
+use Rattle.std.proofs.Common.{◌≡◌, ◌∙◌, ◌⊎◌, refl, sym, ap, subst, arith, inl, inr, ℕ, ◌+◌, ◌≤◌, true, false, List, [], ◌∷◌, ◌++◌, length, take, drop, min, Option, Some, None}
+use Rattle.std.specs.Prelude.{◌==◌, ◌&&◌, not, nat_le}
 use Rattle.thread_base.specs.Actions.{ignores}
 use Rattle.thread_base.specs.Deliveries.{waits_for}
-use Rattle.thread_base.specs.Numbers.{IsTid, IsInScope}
+use Rattle.thread_base.specs.Numbers.{IsTid}
 use Rattle.thread_base.proofs.SearchLemmas.{tids_in}
 use Rattle.thread_base.specs.declared.Place.{Place}
 use Rattle.thread_base.specs.declared.action.Action.{Action}
@@ -23,9 +21,9 @@ use Rattle.posix_model.specs.Scheduling.{chosen}
 use Rattle.posix_model.specs.Threads.{joiner, some_live}
 use Rattle.posix_model.specs.Leaving.{answer_joiner, remains, without_thread, over_with_last, end_with}
 use Rattle.posix_model.specs.Exits.{ExitAction, RunCleanup, Destroy, Finish, exit_action, destroy_in, acted}
-use Rattle.posix_model.specs.Calls.{call_number, arguments, call_row}
+use Rattle.posix_model.specs.Calls.{call_number, arguments}
 use Rattle.posix_model.specs.Deliveries.{Delivery, Acts, Gives, delivered, given, by_action, handled, wait_ended, entering, unqueued, cancelled, set_pending, pend, killed_by, faulted, told, awaited, is_free_for}
-use Rattle.posix_model.specs.Arrivals.{dropped, arrive_signal, read_into, charge, charge_to, has_turn, has_come, timed_out, expired, expire_at, expire_all, ring, tick, readers, serve_at, serve_all, answer_all}
+use Rattle.posix_model.specs.Arrivals.{arrive_signal, read_into, charge, charge_to, has_turn, has_come, timed_out, expired, expire_at, expire_all, ring, tick, readers, serve_at, serve_all, answer_all}
 use Rattle.posix_model.specs.Instructions.{by_effect, instruction, handler_returned, cleanup_returned, start_returned, returned, segmentation_fault, told_return}
 use Rattle.posix_model.specs.Good.{IsGood}
 use Rattle.posix_model.specs.Reports.{nothing_told}
@@ -40,34 +38,15 @@ use Rattle.posix_model.specs.declared.Move.{Move}
 use Rattle.posix_model.specs.declared.Move.TheVariants.{Instr, Arrive, Deliver}
 use Rattle.posix_model.specs.declared.RetakeReply.TheVariants.{Answer, Cancel}
 use Rattle.posix_model.proofs.PendingLemmas.{either}
+use Rattle.posix_model.proofs.PendingMoves.{in_range}
 use Rattle.posix_model.proofs.Weights.{IsDue, next_due, due_place}
 use Rattle.posix_model.proofs.GoodLemmas.{chosen_ready}
 use Rattle.posix_model.proofs.GoodMoves.{goodness}
-use Rattle.run_laws.specs.Ledger.{reports, share, came, went, rung, beside, income_of, outcome_of, income, outcome, LedgerCloses}
-use Rattle.run_laws.proofs.LedgerSums.{share_none, left_in, left_is, left_put, left_more, left_taken, none_left, no_drops, drops_more, drops_plus, left_at}
-use Rattle.run_laws.proofs.LedgerCalls.{told_of, kept_of, Keeps, keeps_wake, keeps_call, sends_none}
-
--- nothing is told but perhaps a main line and an alarm, and what pends is as it was
-record IsBare (s : State) (rings : Bool) (g : Outcome) : Type 0 where
-  pending : g.state.pending ≡ s.pending
-  alarm : g.report.alarm ≡ rings
-  took : g.report.took ≡ 0
-  drops : g.report.drops ≡ replicate 32 0
-
-bare_begun : (s : State) → IsBare s false (begun s)
-unfolding nothing_told
-bare_begun s = record { pending = refl; alarm = refl; took = refl; drops = refl }
-
-bare_kept : (s : State) (g h : Outcome) → IsBare s false g → Keeps g h → IsBare s false h
-bare_kept s g h bare keeps = record {
-  pending = ap (λ (k : (ℕ → ℕ → ℕ) × (Bool × ℕ × List ℕ)). k.0) keeps ∙ bare.pending;
-  alarm = ap (λ (k : (ℕ → ℕ → ℕ) × (Bool × ℕ × List ℕ)). k.1.0) keeps ∙ bare.alarm;
-  took = ap (λ (k : (ℕ → ℕ → ℕ) × (Bool × ℕ × List ℕ)). k.1.1) keeps ∙ bare.took;
-  drops = ap (λ (k : (ℕ → ℕ → ℕ) × (Bool × ℕ × List ℕ)). k.1.2) keeps ∙ bare.drops;
-}
-
-is_bare : (s : State) (g : Outcome) → Keeps (begun s) g → IsBare s false g
-is_bare s g keeps = bare_kept s (begun s) g (bare_begun s) keeps
+use Rattle.run_laws.specs.Ledger.{reports, share, came, went, rung, income, outcome, LedgerCloses}
+use Rattle.run_laws.proofs.LedgerSums.{share_none, left_in, left_is, left_put, left_more, left_taken, none_left, drops_plus, left_at}
+use Rattle.run_laws.proofs.LedgerCalls.{told_of, kept_of, Keeps, keeps_wake}
+use Rattle.run_laws.proofs.LedgerEven.{IsBare, bare_begun, bare_kept, is_bare, Even, Balances, none_beside, none_dropped, same_left, killed_comes, signal_comes, none_rung, even_bare}
+use Rattle.run_laws.proofs.LedgerSends.{even_call}
 
 -- ---- what leaves all that a ledger reads
 
@@ -135,79 +114,12 @@ keeps_answer_all g (t ∷ ts) = keeps_answer_all (answer g t 0 0) ts
 
 -- ---- one signal
 
-module _ (sig : ℕ) (high : sig ≤ 31) where
-  -- so many came by the main line and so many went by it: with all else that is told, what came is what went and what
-  -- pends more
-  abbrev Even : State → Outcome → ℕ → ℕ → Type 0
-  Even s g came went =
-      came + rung sig g.report.alarm + left_in s.pending sig ≡ went + beside sig g.report + slice_index g.report.drops sig + left_in g.state.pending sig
-
-  -- the same for an outcome with its main line
-  abbrev pub Balances : State → Outcome → Type 0
-  Balances s o = income_of sig o.report + left_in s.pending sig ≡ outcome_of sig o.report + left_in o.state.pending sig
-
-  -- of what is bare, nothing is told
-  module _ {rings : Bool} (s : State) (g : Outcome) (bare : IsBare s rings g) where
-    same_rung : rung sig g.report.alarm ≡ rung sig rings
-    same_rung = ap (rung sig) bare.alarm
-
-    none_beside : beside sig g.report ≡ 0
-    none_beside = ap (λ n. if n == 0 then 0 else share sig g.report.took_sig g.report.took_count) bare.took
-
-    none_dropped : slice_index g.report.drops sig ≡ 0
-    none_dropped = ap (λ xs. slice_index xs sig) bare.drops ∙ no_drops 32 sig
-
-    same_left : left_in g.state.pending sig ≡ left_in s.pending sig
-    same_left = ap (λ counts. left_in counts sig) bare.pending
-
-    -- a signal comes for the process
-    abbrev Comes : ℕ → Outcome → Type 0
-    Comes more o =
-        (o.report.alarm ≡ g.report.alarm)
-        × (left_in s.pending sig + more ≡ beside sig o.report + slice_index o.report.drops sig + left_in o.state.pending sig)
-
-    killed_comes : (other count : ℕ) → Comes (share sig other count) (killed_by other count g)
-    killed_comes other count = let left = same_left in let drops = none_dropped in (refl, omega (arith, left, drops))
-
-    dropped_comes : (other count : ℕ) → Comes (share sig other count) (dropped g other count)
-    dropped_comes other count =
-        let left = same_left in
-        let beside = none_beside in
-        let before = none_dropped in
-        let more = drops_more g.report.drops sig other count (ap length bare.drops ∙ length-replicate {A = ℕ} 32 0) high in
-        (refl, omega (arith, left, beside, before, more))
-
-    pending_comes : (other count : ℕ) → Comes (share sig other count) (record g { state = pend g.state 0 other count })
-    pending_comes other count =
-        let left = same_left in
-        let beside = none_beside in
-        let drops = none_dropped in
-        let more = left_more g.state 0 other sig (inl refl) count in
-        (refl, omega (arith, left, beside, drops, more))
-
-    signal_comes : (other count : ℕ) → Comes (share sig other count) (arrive_signal g other count)
-    signal_comes other count =
-        let pending : Outcome = record g { state = pend g.state 0 other count } in
-        let heeded : Outcome = if ignores (g.state.actions other) other then dropped g other count else pending in
-        either (Comes (share sig other count)) (other == 9) (killed_by other count g) heeded (killed_comes other count)
-        (either (Comes (share sig other count)) (ignores (g.state.actions other) other) (dropped g other count) pending (dropped_comes other count) (pending_comes other count))
-
-  none_rung : (s : State) (g : Outcome) → IsBare s false g → rung sig g.report.alarm ≡ 0
-  none_rung s g bare = same_rung s g bare
-
-  even_bare : (s : State) (g : Outcome) → IsBare s false g → Even s g 0 0
-  even_bare s g bare =
-      let left = same_left s g bare in
-      let rung = none_rung s g bare in
-      let beside = none_beside s g bare in
-      let drops = none_dropped s g bare in
-      omega (arith, left, rung, beside, drops)
-
+module _ (sig : ℕ) (low : 1 ≤ sig) (high : sig ≤ 31) where
   -- a move without a main line
-  balances_quiet : (s : State) (o : Outcome) → IsBare s false o → o.report.head ≡ nothing_told.head → Balances s o
+  balances_quiet : (s : State) (o : Outcome) → IsBare s false o → o.report.head ≡ nothing_told.head → Balances sig s o
   unfolding nothing_told
   balances_quiet s o bare head =
-      let even = even_bare s o bare in
+      let even = even_bare sig s o bare in
       let in_none : came sig o.report.head ≡ 0 = ap (came sig) head in
       let out_none : went sig o.report.head ≡ 0 = ap (went sig) head in
       omega (arith, even, in_none, out_none)
@@ -215,29 +127,29 @@ module _ (sig : ℕ) (high : sig ≤ 31) where
   -- ---- an instruction
 
   -- a fault
-  balances_faulted : (s : State) (t other : ℕ) → IsTid t → Balances s (faulted s t other)
+  balances_faulted : (s : State) (t other : ℕ) → IsTid t → Balances sig s (faulted s t other)
   balances_faulted s t other range =
-      either (λ (g : Outcome). Balances s (told t (Fault other) g)) (is_free_for s t other && not (ignores (s.actions other) other)) (begun (pend s t other 1))
+      either (λ (g : Outcome). Balances sig s (told t (Fault other) g)) (is_free_for s t other && not (ignores (s.actions other) other)) (begun (pend s t other 1))
       (killed_by other 1 (begun s)) here ended
     where
-      here : Balances s (told t (Fault other) (begun (pend s t other 1)))
+      here : Balances sig s (told t (Fault other) (begun (pend s t other 1)))
       here =
           let r : State = pend s t other 1 in
-          let even = even_bare r (begun r) (bare_begun r) in
+          let even = even_bare sig r (begun r) (bare_begun r) in
           let more = left_more s t other sig (inr range) 1 in
           omega (arith, even, more)
 
-      ended : Balances s (told t (Fault other) (killed_by other 1 (begun s)))
+      ended : Balances sig s (told t (Fault other) (killed_by other 1 (begun s)))
       ended =
-          let comes = (killed_comes s (begun s) (bare_begun s) other 1).1 in
-          let rung = none_rung s (begun s) (bare_begun s) in
+          let comes = (killed_comes sig s (begun s) (bare_begun s) other 1).1 in
+          let rung = none_rung sig s (begun s) (bare_begun s) in
           omega (arith, comes, rung)
 
   -- the end of a thread
   pending_over : (s : State) → (over_with_last s).pending ≡ s.pending
   pending_over s = either (λ (r : State). r.pending ≡ s.pending) (some_live s) s (record s { over = Some (Exit 0) }) refl refl
 
-  even_end : (s : State) (t value : ℕ) (o : Option ℕ) → IsTid t → Even s (end_with s t value o) 0 0
+  even_end : (s : State) (t value : ℕ) (o : Option ℕ) → IsTid t → Even sig s (end_with s t value o) 0 0
   even_end s t value o range =
       let answered : Outcome = answer_joiner (begun s) value o in
       let kept = is_bare s answered (keeps_joiner s value o) in
@@ -247,66 +159,62 @@ module _ (sig : ℕ) (high : sig ≤ 31) where
       let cleared = left_put answered.state.pending t (λ v. 0) sig (inr range) in
       let own : answered.state.pending t sig ≡ s.pending t sig = ap (λ (counts : ℕ → ℕ → ℕ). counts t sig) kept.pending in
       let drops = drops_plus answered.report.drops (s.pending t) sig high in
-      let same = same_left s answered kept in
-      let rung = none_rung s answered kept in
-      let beside = none_beside s answered kept in
-      let none = none_dropped s answered kept in
+      let same = same_left sig s answered kept in
+      let rung = none_rung sig s answered kept in
+      let beside = none_beside sig s answered kept in
+      let none = none_dropped sig s answered kept in
       omega (arith, now, cleared, own, drops, same, rung, beside, none)
 
   -- the actions of an exit
-  even_acted : (s : State) (t value : ℕ) (action : ExitAction) → IsTid t → Even s (acted s t value action) 0 0
+  even_acted : (s : State) (t value : ℕ) (action : ExitAction) → IsTid t → Even sig s (acted s t value action) 0 0
   even_acted s t value (RunCleanup cleanup others) range =
-      let g : Outcome = acted s t value (RunCleanup cleanup others) in even_bare s g (is_bare s g refl)
+      let g : Outcome = acted s t value (RunCleanup cleanup others) in even_bare sig s g (is_bare s g refl)
   even_acted s t value (Destroy k rounds) range =
-      let g : Outcome = acted s t value (Destroy k rounds) in even_bare s g (is_bare s g (keeps_destroy s t value k rounds (s.keys k)))
+      let g : Outcome = acted s t value (Destroy k rounds) in even_bare sig s g (is_bare s g (keeps_destroy s t value k rounds (s.keys k)))
   even_acted s t value Finish range = even_end s t value (joiner s t) range
 
   module _ (s : State) (t : ℕ) (range : IsTid t) where
-    not_due : Balances s (faulted s t segmentation_fault)
+    not_due : Balances sig s (faulted s t segmentation_fault)
     not_due = balances_faulted s t segmentation_fault range
 
-    balances_handler : (frames : List Frame) → Balances s (handler_returned s t frames)
+    balances_handler : (frames : List Frame) → Balances sig s (handler_returned s t frames)
     balances_handler [] = not_due
     balances_handler (frame ∷ frames) =
         let before : Outcome = begun (set_thread s t (record (s.threads t) { registers = frame.registers; mask = frame.mask; frames = frames })) in
-        either (λ (g : Outcome). Balances s g) (is_of_handler frame.kind) (told_return t Handler before) (faulted s t segmentation_fault)
-        (even_bare s before (is_bare s before refl)) not_due
+        either (λ (g : Outcome). Balances sig s g) (is_of_handler frame.kind) (told_return t Handler before) (faulted s t segmentation_fault)
+        (even_bare sig s before (is_bare s before refl)) not_due
 
-    balances_cleanup : (frames : List Frame) (phase : Phase) → Balances s (cleanup_returned s t frames phase)
+    balances_cleanup : (frames : List Frame) (phase : Phase) → Balances sig s (cleanup_returned s t frames phase)
     balances_cleanup [] Normal = not_due
     balances_cleanup [] (Leaving value rounds next) = even_acted s t value (exit_action s t (s.threads t).cleanups rounds next) range
     balances_cleanup (frame ∷ frames) phase =
         let before : Outcome = begun (set_thread s t (record (s.threads t) { registers = frame.registers; frames = frames })) in
-        either (λ (g : Outcome). Balances s g) (is_of_handler frame.kind) (faulted s t segmentation_fault) (told_return t Cleanup before) not_due
-        (even_bare s before (is_bare s before refl))
+        either (λ (g : Outcome). Balances sig s g) (is_of_handler frame.kind) (faulted s t segmentation_fault) (told_return t Cleanup before) not_due
+        (even_bare sig s before (is_bare s before refl))
 
-    balances_start : (frames : List Frame) (phase : Phase) → Balances s (start_returned s t frames phase)
-    balances_start [] Normal = even_bare s (start_returned s t [] Normal) (is_bare s (start_returned s t [] Normal) refl)
+    balances_start : (frames : List Frame) (phase : Phase) → Balances sig s (start_returned s t frames phase)
+    balances_start [] Normal = even_bare sig s (start_returned s t [] Normal) (is_bare s (start_returned s t [] Normal) refl)
     balances_start [] (Leaving value rounds next) = not_due
     balances_start (frame ∷ frames) phase = not_due
 
-    balances_returned : (which : Special) → Balances s (returned s t which)
+    balances_returned : (which : Special) → Balances sig s (returned s t which)
     balances_returned Handler = balances_handler (s.threads t).frames
     balances_returned Cleanup = balances_cleanup (s.threads t).frames (s.threads t).phase
     balances_returned Start = balances_start (s.threads t).frames (s.threads t).phase
 
-    balances_call : Balances s (by_effect s t Calls)
-    balances_call =
-        let number = call_number (s.threads t).registers in
-        let c = arguments (s.threads t).registers in
-        let even = even_bare s (call_row s t number c).outcome (is_bare s (call_row s t number c).outcome (keeps_call s t number c)) in
-        let none = sends_none s t number sig c (c.a0 ∷ c.a1 ∷ c.a2 ∷ c.a3 ∷ []) in
-        omega (arith, even, none)
+    balances_call : IsGood s → Balances sig s (by_effect s t Calls)
+    balances_call good =
+        let even = even_call sig low high s t (call_number (s.threads t).registers) (arguments (s.threads t).registers) good in omega (arith, even)
 
-    balances_effect : (e : Effect) → Balances s (by_effect s t e)
-    balances_effect (Goes pc x memory) = balances_quiet s (by_effect s t (Goes pc x memory)) (is_bare s (by_effect s t (Goes pc x memory)) refl) refl
-    balances_effect Calls = balances_call
-    balances_effect (Faults other) = balances_faulted s t other range
-    balances_effect (Returns which) = balances_returned which
+    balances_effect : (e : Effect) → IsGood s → Balances sig s (by_effect s t e)
+    balances_effect (Goes pc x memory) good = balances_quiet s (by_effect s t (Goes pc x memory)) (is_bare s (by_effect s t (Goes pc x memory)) refl) refl
+    balances_effect Calls good = balances_call good
+    balances_effect (Faults other) good = balances_faulted s t other range
+    balances_effect (Returns which) good = balances_returned which
 
-    pub balances_instruction : Balances s (instruction s t)
+    pub balances_instruction : IsGood s → Balances sig s (instruction s t)
     unfolding instruction
-    balances_instruction = balances_effect (effect (s.threads t).registers.pc (s.threads t).registers.x s.memory)
+    balances_instruction good = balances_effect (effect (s.threads t).registers.pc (s.threads t).registers.x s.memory) good
 
   -- ---- a delivery
 
@@ -319,17 +227,17 @@ module _ (sig : ℕ) (high : sig ≤ 31) where
     many = s.pending place other
 
     -- it goes by the main line
-    goes : (head : Head) (g : Outcome) → IsBare rest false g → came sig head ≡ 0 → went sig head ≡ share sig other many → Balances s (told t head g)
+    goes : (head : Head) (g : Outcome) → IsBare rest false g → came sig head ≡ 0 → went sig head ≡ share sig other many → Balances sig s (told t head g)
     goes head g bare in_none out =
-        let even = even_bare rest g bare in
+        let even = even_bare sig rest g bare in
         let taken = left_taken s place other sig where_it_is in
         omega (arith, even, taken, in_none, out)
 
-    balances_handled : (at mask : ℕ) (a : Target) → Balances s (handled rest t other many at mask a)
+    balances_handled : (at mask : ℕ) (a : Target) → Balances sig s (handled rest t other many at mask a)
     balances_handled at mask (ConditionAt c) =
         let woken : Outcome = wake (begun rest) t (Answer 0) in
         let kept = is_bare rest woken (keeps_wake (begun rest) t (Answer 0)) in
-        let even = even_bare rest woken kept in
+        let even = even_bare sig rest woken kept in
         let taken = left_taken s place other sig where_it_is in
         let more = left_more woken.state t other sig (inr range) many in
         omega (arith, even, taken, more)
@@ -338,7 +246,7 @@ module _ (sig : ℕ) (high : sig ≤ 31) where
         let after : Outcome = entering before t other at mask in
         goes (DeliverHead t other many) after (is_bare rest after (keeps_ended (begun rest) t a)) refl refl
 
-    balances_action : (action : Action) → s.actions other ≡ action → IsGood s → Balances s (by_action rest t other many action)
+    balances_action : (action : Action) → s.actions other ≡ action → IsGood s → Balances sig s (by_action rest t other many action)
     balances_action Default is good =
         let ended : Outcome = begun (record rest { over = Some (Killed other) }) in goes (DeliverHead t other many) ended (is_bare rest ended refl) refl refl
     balances_action Ignore is good =
@@ -349,30 +257,30 @@ module _ (sig : ℕ) (high : sig ≤ 31) where
         omega (arith, none, taken, quiet)
     balances_action (OfHandler at mask) is good = balances_handled at mask (target (s.threads t).standing)
 
-    balances_given : IsGood s → Balances s (given rest t other many)
+    balances_given : IsGood s → Balances sig s (given rest t other many)
     balances_given good =
         let accepted : Outcome = answer (begun rest) t 0 other in
-        either (λ (o : Outcome). Balances s o) (waits_for (awaited rest t) other) (told t (Accept t other many) accepted) (by_action rest t other many (s.actions other))
+        either (λ (o : Outcome). Balances sig s o) (waits_for (awaited rest t) other) (told t (Accept t other many) accepted) (by_action rest t other many (s.actions other))
         (goes (Accept t other many) accepted (is_bare rest accepted refl) refl refl) (balances_action (s.actions other) refl good)
 
-  pub balances_delivered : (s : State) (d : Delivery) → IsGood s → IsDue s d → Balances s (delivered s (Some d))
+  pub balances_delivered : (s : State) (d : Delivery) → IsGood s → IsDue s d → Balances sig s (delivered s (Some d))
   balances_delivered s (Acts t) good due =
-      let g : Outcome = cancelled s t (target (s.threads t).standing) in even_bare s g (is_bare s g (keeps_cancelled s t (target (s.threads t).standing)))
+      let g : Outcome = cancelled s t (target (s.threads t).standing) in even_bare sig s g (is_bare s g (keeps_cancelled s t (target (s.threads t).standing)))
   balances_delivered s (Gives t other place) good due = balances_given s t other place (due_place t place due.1 due.3) (tids_in t due.1) good
 
   -- ---- an arrival
 
-  even_ring : (s : State) (g : Outcome) → IsBare s false g → Even s (ring g) 0 0
+  even_ring : (s : State) (g : Outcome) → IsBare s false g → Even sig s (ring g) 0 0
   even_ring s g bare =
       let rang : Outcome = record { state = record g.state { alarm = None }; report = record g.report { alarm = true } } in
       let told : IsBare s true rang = record { pending = bare.pending; alarm = refl; took = bare.took; drops = bare.drops } in
-      let comes = signal_comes s rang told 14 1 in
+      let comes = signal_comes sig s rang told high 0 (inl refl) 14 1 in
       let is : rung sig (arrive_signal rang 14 1).report.alarm ≡ share sig 14 1 = ap (rung sig) comes.0 in
       let sum = comes.1 in
-      let here : Even s (arrive_signal rang 14 1) 0 0 = omega (arith, is, sum) in
-      either (λ (o : Outcome). Even s o 0 0) (has_come g.state.now g.state.alarm) (arrive_signal rang 14 1) g here (even_bare s g bare)
+      let here : Even sig s (arrive_signal rang 14 1) 0 0 = omega (arith, is, sum) in
+      either (λ (o : Outcome). Even sig s o 0 0) (has_come g.state.now g.state.alarm) (arrive_signal rang 14 1) g here (even_bare sig s g bare)
 
-  even_tick : (quantum : ℕ) (s : State) → Even s (tick quantum (begun s)) 0 0
+  even_tick : (quantum : ℕ) (s : State) → Even sig s (tick quantum (begun s)) 0 0
   even_tick quantum s =
       let later : State = record s { now = s.now + 1 } in
       let charged : State = charge quantum later (chosen s) in
@@ -381,35 +289,35 @@ module _ (sig : ℕ) (high : sig ≤ 31) where
       let first = is_bare s g (ap (λ (p : ℕ → ℕ → ℕ). (p, told_of (begun s).report)) (pending_charge quantum later (chosen s))) in
       even_ring s calm (bare_kept s g calm first (keeps_expire_all g (expired charged)))
 
-  pub balances_arrived : (rules : Rules) (s : State) (first count : ℕ) (at : Place) (o : Option Entry) → Balances s (arrived rules s first count at o)
+  pub balances_arrived : (rules : Rules) (s : State) (first count : ℕ) (at : Place) (o : Option Entry) → Balances sig s (arrived rules s first count at o)
   balances_arrived rules s first count at None = balances_quiet s (begun s) (bare_begun s) refl
   balances_arrived rules s first count at (Some entry) = by entry.what
     where
-      by : (what : What) → Balances s (arrived rules s first count at (Some (record entry { what = what })))
+      by : (what : What) → Balances sig s (arrived rules s first count at (Some (record entry { what = what })))
       by (Sig other) =
-          let comes = signal_comes s (begun s) (bare_begun s) other count in
-          let alarm : rung sig (arrive_signal (begun s) other count).report.alarm ≡ 0 = ap (rung sig) comes.0 ∙ none_rung s (begun s) (bare_begun s) in
+          let comes = signal_comes sig s (begun s) (bare_begun s) high 0 (inl refl) other count in
+          let alarm : rung sig (arrive_signal (begun s) other count).report.alarm ≡ 0 = ap (rung sig) comes.0 ∙ none_rung sig s (begun s) (bare_begun s) in
           let sum = comes.1 in
           omega (arith, alarm, sum)
       by Tick = even_tick rules.settings.quantum s
       by (Data start len) =
           let joined : Outcome = record (begun s) { state = record s { input = s.input ++ take len (drop start rules.journal.bytes) } } in
           let served : Outcome = serve_all joined (readers s) in
-          even_bare s served (is_bare s served (keeps_serve_all joined (readers s)))
+          even_bare sig s served (is_bare s served (keeps_serve_all joined (readers s)))
       by Eof =
           let over : Outcome = record (begun s) { state = record s { is_input_over = true } } in
           let answered : Outcome = answer_all over (readers s) in
-          even_bare s answered (is_bare s answered (keeps_answer_all over (readers s)))
+          even_bare sig s answered (is_bare s answered (keeps_answer_all over (readers s)))
 
 -- ---- runs
 
-module _ (sig : ℕ) (high : sig ≤ 31) (rules : Rules) where
-  balances_move : (now : Moment) (move : Move) → IsGood now.state → Allowed rules now move → Balances sig high now.state (make rules now.state move)
-  balances_move now (Instr t) good allowed = let turn = chosen_ready now.state t good allowed.0.first in balances_instruction sig high now.state t turn.1
-  balances_move now (Arrive first count at) good may = balances_arrived sig high rules now.state first count at (entry_at rules.journal.entries first)
+module _ (sig : ℕ) (low : 1 ≤ sig) (high : sig ≤ 31) (rules : Rules) where
+  balances_move : (now : Moment) (move : Move) → IsGood now.state → Allowed rules now move → Balances sig now.state (make rules now.state move)
+  balances_move now (Instr t) good allowed = let turn = chosen_ready now.state t good allowed.0.first in balances_instruction sig low high now.state t turn.1 good
+  balances_move now (Arrive first count at) good may = balances_arrived sig low high rules now.state first count at (entry_at rules.journal.entries first)
   balances_move now Deliver good allowed =
-      subst (λ o. Balances sig high now.state (delivered now.state o)) (sym allowed.2)
-      (balances_delivered sig high now.state allowed.1 good (next_due now.state allowed.1 allowed.2))
+      subst (λ o. Balances sig now.state (delivered now.state o)) (sym allowed.2)
+      (balances_delivered sig low high now.state allowed.1 good (next_due now.state allowed.1 allowed.2))
 
   state_moved : (now : Moment) (move : Move) → (moved rules now move).state ≡ (make rules now.state move).state
   state_moved now (Instr t) = refl
@@ -427,24 +335,20 @@ module _ (sig : ℕ) (high : sig ≤ 31) (rules : Rules) where
       let rest = ledger_goes_on (moved rules now move) moves (goodness.1 rules now move good run.0) run.1 in
       omega (arith, here, same, rest)
 
-so_far_closes : (rules : Rules) (memory : List ℕ) (entry : ℕ) (moves : List Move) (sig : ℕ) → IsRun rules (start memory entry) moves → sig ≤ 31
+so_far_closes : (rules : Rules) (memory : List ℕ) (entry : ℕ) (moves : List Move) (sig : ℕ) → IsRun rules (start memory entry) moves → (1 ≤ sig) × (sig ≤ 31)
     → income sig (reports rules (start memory entry) moves)
     ≡ outcome sig (reports rules (start memory entry) moves) + left_of (after rules (start memory entry) moves).state sig
-so_far_closes rules memory entry moves sig run high =
-    let whole = ledger_goes_on sig high rules (start memory entry) moves (goodness.0 memory entry) run in
+so_far_closes rules memory entry moves sig run number =
+    let whole = ledger_goes_on sig number.0 number.1 rules (start memory entry) moves (goodness.0 memory entry) run in
     let first = none_left sig in
     let last = left_is (after rules (start memory entry) moves).state sig in
     omega (arith, whole, first, last)
 
--- a signal in scope is 31 at most
-at_most : (sig : ℕ) → IsInScope sig → sig ≤ 31
-at_most sig h = leb-true sig 31 (and_parts (nat_le sig 31) (nat_lt sig 18 || nat_lt 22 sig) (and_parts (nat_le 1 sig) (nat_le sig 31 && (nat_lt sig 18 || nat_lt 22 sig)) h).1).0
-
 pub ledger_closes : LedgerCloses
 ledger_closes = record {
-  so_far = λ rules memory entry moves sig run scope. so_far_closes rules memory entry moves sig run (at_most sig scope);
+  so_far = λ rules memory entry moves sig run scope. so_far_closes rules memory entry moves sig run (in_range sig scope);
   whole = λ rules memory entry moves ending sig whole scope.
-      let last = left_at (after rules (start memory entry) moves).state sig (at_most sig scope) in
-      so_far_closes rules memory entry moves sig whole.run (at_most sig scope)
+      let last = left_at (after rules (start memory entry) moves).state sig (in_range sig scope).1 in
+      so_far_closes rules memory entry moves sig whole.run (in_range sig scope)
       ∙ ap (λ n. outcome sig (reports rules (start memory entry) moves) + n) (sym last);
 }

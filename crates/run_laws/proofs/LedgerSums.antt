@@ -6,13 +6,15 @@ use Rattle.std.proofs.lemmas.Bool.{cases_eq, eq-eqb, ne_eqb}
 use Rattle.std.proofs.lemmas.List.{get_or-set_same, get_or-set_other, get_or-map}
 use Rattle.thread_base.specs.Maps.{put}
 use Rattle.thread_base.specs.Priority.{tids}
-use Rattle.thread_base.proofs.MapLemmas.{put_same, put_other}
+use Rattle.thread_base.proofs.MapLemmas.{put_same, put_other, at_same}
 use Rattle.posix_model.specs.State.{State, none_pending}
 use Rattle.posix_model.specs.Deliveries.{pend, set_pending}
 use Rattle.posix_model.specs.Leaving.{plus_each}
+use Rattle.posix_model.specs.SignalCalls.{forgotten}
 use Rattle.posix_model.specs.Lines.{sig_numbers}
 use Rattle.posix_model.specs.Trace.{left_of, left}
 use Rattle.posix_model.specs.Weights.{total}
+use Rattle.posix_model.proofs.JournalLemmas.{length_range}
 use Rattle.run_laws.specs.Ledger.{share}
 
 -- a count of the signal of the ledger, and of another
@@ -150,7 +152,7 @@ module _ (s : State) (place other sig : ℕ) (where_it_is : (place ≡ 0) ⊎ ((
       let none = share_none sig other in
       omega (arith, change, none)
 
--- nothing pends
+-- sums of nothing
 none_total : (first count : ℕ) → total (λ t. 0) (range_with_len first count) ≡ 0
 none_total first zero = refl
 none_total first (suc count) = let rest = none_total (first + 1) count in omega (arith, rest)
@@ -158,6 +160,35 @@ none_total first (suc count) = let rest = none_total (first + 1) count in omega 
 pub none_left : (sig : ℕ) → left_in none_pending sig ≡ 0
 unfolding left_in own_left tids
 none_left sig = none_total 1 64
+
+-- nothing of a signal pends any more
+own_forgotten : (counts : ℕ → ℕ → ℕ) (other sig : ℕ) → other ≡ sig → own_left (forgotten other counts) sig ≡ 0
+unfolding own_left tids
+own_forgotten counts other sig same =
+    total_same (λ t. forgotten other counts t sig) (λ t. 0) 1 64 (λ t low. at_same (λ n. n) (counts t) other sig 0 (sym same)) ∙ none_total 1 64
+
+own_others : (counts : ℕ → ℕ → ℕ) (other sig : ℕ) → other ≢ sig → own_left (forgotten other counts) sig ≡ own_left counts sig
+unfolding own_left tids
+own_others counts other sig apart =
+    total_same (λ t. forgotten other counts t sig) (λ t. counts t sig) 1 64 (λ t low. put_other (counts t) other 0 sig (λ e. apart (sym e)))
+
+pub left_forgotten : (counts : ℕ → ℕ → ℕ) (other sig : ℕ) → left_in (forgotten other counts) sig + share sig other (left_in counts other) ≡ left_in counts sig
+left_forgotten counts other sig =
+    let before = parts counts sig in
+    let after = parts (forgotten other counts) sig in
+    elim (cases_eq other sig) [
+      | inl same ↦
+          (let own = own_forgotten counts other sig same in
+          let process : put (counts 0) other 0 sig ≡ 0 = at_same (λ n. n) (counts 0) other sig 0 (sym same) in
+          let all = share_own sig other (left_in counts other) same in
+          let its : left_in counts other ≡ left_in counts sig = ap (left_in counts) same in
+          omega (arith, before, after, own, process, all, its))
+      | inr apart ↦
+          (let own = own_others counts other sig apart in
+          let process = put_other (counts 0) other 0 sig (λ e. apart (sym e)) in
+          let none = share_other sig other (left_in counts other) apart in
+          omega (arith, before, after, own, process, none))
+    ]
 
 -- ---- counts by signal in a list
 
@@ -189,15 +220,11 @@ range_at first zero i low = absurd (omega arith)
 range_at first (suc count) zero low = omega arith
 range_at first (suc count) (suc i) low = let rest = range_at (first + 1) count i (omega arith) in omega (arith, rest)
 
-long_range : (first count : ℕ) → length (range_with_len first count) ≡ count
-long_range first zero = refl
-long_range first (suc count) = let rest = long_range (first + 1) count in omega (arith, rest)
-
 -- what a list by signal has
 by_signal : (f : ℕ → ℕ) (sig : ℕ) → sig ≤ 31 → slice_index (map f sig_numbers) sig ≡ f sig
 unfolding sig_numbers
 by_signal f sig high =
-    let long = long_range 0 32 in
+    let long = length_range 0 32 in
     let at : slice_index (range_with_len 0 32) sig ≡ sig = range_at 0 32 sig (omega arith) ∙ omega arith in
     get_or-map f (range_with_len 0 32) sig 0 0 (omega (arith, long, high)) ∙ ap f at
 

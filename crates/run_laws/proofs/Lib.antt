@@ -1,5 +1,7 @@
 pub mod LedgerSums
 pub mod LedgerCalls
+pub mod LedgerEven
+pub mod LedgerSends
 pub mod LedgerMoves
 pub mod EntryLemmas
 pub mod CourseLemmas

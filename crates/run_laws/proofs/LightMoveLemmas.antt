@@ -1,5 +1,5 @@
 -- Moves that change no thread.
-use Rattle.std.proofs.Common.{◌≡◌, ◌∙◌, refl, sym, ap, subst, inl, inr, ℕ, Bool, true, false, [], Option, Some, None}
+use Rattle.std.proofs.Common.{◌≡◌, ◌∙◌, refl, sym, ap, subst, inl, inr, ℕ, false, [], Option, Some, None}
 use Rattle.std.specs.Prelude.{◌⊎◌, ◌==◌, if◌then◌else◌}
 use Rattle.thread_base.specs.Actions.{ignores}
 use Rattle.thread_base.specs.Deliveries.{waits_for}
@@ -23,13 +23,9 @@ use Rattle.posix_model.specs.declared.RetakeReply.{RetakeReply}
 use Rattle.posix_model.specs.declared.RetakeReply.TheVariants.{Answer, Cancel}
 use Rattle.posix_model.specs.declared.Wait.{Wait}
 use Rattle.posix_model.specs.declared.Wait.TheVariants.{Join, Mutex as OfMutex, Cond, Reacquire, Signal as OfSignal, Sleep, Read}
+use Rattle.posix_model.proofs.PendingLemmas.{either}
 use Rattle.run_laws.specs.MoveWeights.{WeighsAtMost, SignalWeighsNothing, EndWeighsNothing}
 use Rattle.run_laws.proofs.MoveWeightLemmas.{weighs_few}
-
--- what holds of both ways holds of either
-either : {A : Type 0} (P : A → Type 0) (b : Bool) (x y : A) → P x → P y → P (if b then x else y)
-either P true x y p q = p
-either P false x y p q = q
 
 -- where the records stay the weight is 0
 weighs_nothing : (s r : State) → r.threads ≡ s.threads → WeighsAtMost s r 0

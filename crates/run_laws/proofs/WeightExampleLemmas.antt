@@ -15,11 +15,12 @@ use Rattle.posix_model.specs.Calls.{create, yield}
 use Rattle.posix_model.specs.ConditionCalls.{cond_broadcast}
 use Rattle.posix_model.specs.Leaving.{end_of_thread}
 use Rattle.posix_model.specs.MutexCalls.{unlock}
+use Rattle.posix_model.specs.SignalCalls.{kill_thread}
 use Rattle.posix_model.specs.Examples.{six_threads, with_arguments}
 use Rattle.posix_model.specs.MutexExamples.{five_mutexes, mutex_with, on}
 use Rattle.posix_model.specs.ConditionExamples.{two_conditions}
 use Rattle.run_laws.specs.MoveWeights.{AreChanged}
-use Rattle.run_laws.specs.WeightExamples.{YieldWeighs, HandOverWeighs, BroadcastWeighs, CreateWeighs, EndWeighs, YieldIsMade, HandOverIsMade}
+use Rattle.run_laws.specs.WeightExamples.{YieldWeighs, KillWeighs, HandOverWeighs, BroadcastWeighs, CreateWeighs, EndWeighs, YieldIsMade, HandOverIsMade}
 use Rattle.run_laws.proofs.MoveWeightLemmas.{weighs_few}
 
 -- one thread more is changed, whose record passes a test and did not before
@@ -43,6 +44,16 @@ unfolding put yielded is_after
 yield_weighs = (
   (1 ∷ [], one_more six_threads yielded is_after 1 [] refl refl refl tt, refl),
   weighs_few six_threads yielded (1 ∷ []) (λ t n. let a = or_parts (eqb t 1) false n in rw a.0 refl),
+)
+
+killed : State
+killed = (kill_thread six_threads 1 (with_arguments 2 10 0 0)).outcome.state
+
+pub kill_weighs : KillWeighs
+unfolding put killed is_after
+kill_weighs = (
+  (1 ∷ [], one_more six_threads killed is_after 1 [] refl refl refl tt, refl),
+  weighs_few six_threads killed (1 ∷ []) (λ t n. let a = or_parts (eqb t 1) false n in rw a.0 refl),
 )
 
 handed : State

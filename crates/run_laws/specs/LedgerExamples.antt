@@ -1,12 +1,15 @@
 -- Small ledgers, which the checker computes.
-use Rattle.std.specs.Prelude.{◌≡◌, true, List, [], ◌∷◌, replicate, slice_set}
+use Rattle.std.specs.Prelude.{◌≡◌, true, List, [], ◌∷◌, ◌++◌, replicate, slice_set}
 use Rattle.thread_base.specs.declared.action.Action.TheVariants.{Ignore}
 use Rattle.thread_base.specs.declared.mutex.Holder.TheVariants.{Free}
 use Rattle.posix_model.specs.State.{none_pending}
 use Rattle.posix_model.specs.Reports.{nothing_told}
 use Rattle.posix_model.specs.Runs.{Moment, after}
 use Rattle.posix_model.specs.Trace.{left_of}
-use Rattle.posix_model.specs.Examples.{six_threads}
+use Rattle.posix_model.specs.Changes.{Outcome}
+use Rattle.posix_model.specs.Calls.{Called, told_call}
+use Rattle.posix_model.specs.SignalCalls.{sigaction, kill_thread, kill_process}
+use Rattle.posix_model.specs.Examples.{six_threads, with_arguments}
 use Rattle.posix_model.specs.SignalExamples.{acting, at_condition}
 use Rattle.posix_model.specs.JournalExamples.{five_entries, moment_of, after_instructions}
 use Rattle.posix_model.specs.declared.Head.{Head}
@@ -67,3 +70,22 @@ Accounts =
     (income 10 eleven_reports ≡ 1) × (outcome 10 eleven_reports ≡ 1) × (income 12 eleven_reports ≡ 3) × (outcome 12 eleven_reports ≡ 3)
     × (income 11 eleven_reports ≡ 2) × (outcome 11 eleven_reports ≡ 1) × (income 14 eleven_reports ≡ 1) × (outcome 14 eleven_reports ≡ 0)
     × (income 17 eleven_reports ≡ 2) × (outcome 17 eleven_reports ≡ 2) × (income 9 eleven_reports ≡ 3) × (outcome 9 eleven_reports ≡ 3)
+
+-- thread 1 sends signal 10 to thread 2, then to the process, and then ignores it
+abbrev pub sent_to_thread : Outcome
+sent_to_thread = let c = with_arguments 2 10 0 0 in told_call 1 290 c (kill_thread six_threads 1 c)
+
+abbrev pub sent_to_process : Outcome
+sent_to_process = let c = with_arguments 10 0 0 0 in told_call 1 291 c (kill_process sent_to_thread.state 1 c)
+
+abbrev pub then_ignored : Outcome
+then_ignored = let c = with_arguments 10 1 0 0 in told_call 1 286 c (sigaction sent_to_process.state 1 c)
+
+-- a call that sends a signal lets one come, and one that ignores it lets all go; the signal 0 lets none come
+abbrev pub SendsCome : Type 0
+SendsCome =
+    let told : List Report = sent_to_thread.report ∷ sent_to_process.report ∷ [] in
+    let asked : Called = kill_thread six_threads 1 (with_arguments 2 0 0 0) in
+    (income 10 told ≡ 2) × (outcome 10 told ≡ 0) × (left_of sent_to_process.state 10 ≡ 2) × (income 10 (told ++ then_ignored.report ∷ []) ≡ 2)
+    × (outcome 10 (told ++ then_ignored.report ∷ []) ≡ 2) × (left_of then_ignored.state 10 ≡ 0)
+    × (income 10 ((told_call 1 290 (with_arguments 2 0 0 0) asked).report ∷ []) ≡ 0)

@@ -4,6 +4,7 @@ use Rattle.thread_base.specs.declared.mutex.Holder.TheVariants.{Held}
 use Rattle.posix_model.specs.Calls.{create, yield}
 use Rattle.posix_model.specs.ConditionCalls.{cond_broadcast}
 use Rattle.posix_model.specs.MutexCalls.{unlock}
+use Rattle.posix_model.specs.SignalCalls.{kill_thread}
 use Rattle.posix_model.specs.Leaving.{end_of_thread}
 use Rattle.posix_model.specs.Examples.{six_threads, with_arguments}
 use Rattle.posix_model.specs.MutexExamples.{five_mutexes, on}
@@ -17,6 +18,10 @@ use Rattle.run_laws.specs.MoveWeights.{Weighs, By, IsMade, since_last, until_las
 -- a yield changes the record of its caller alone
 abbrev pub YieldWeighs : Type 0
 YieldWeighs = Weighs six_threads (yield six_threads 1 (with_arguments 0 0 0 0)).outcome.state 1
+
+-- a signal that is sent to another thread changes the record of its sender alone
+abbrev pub KillWeighs : Type 0
+KillWeighs = Weighs six_threads (kill_thread six_threads 1 (with_arguments 2 10 0 0)).outcome.state 1
 
 -- an unlock that hands the mutex over changes its caller and the waiter
 abbrev pub HandOverWeighs : Type 0

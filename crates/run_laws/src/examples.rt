@@ -17,3 +17,8 @@ pub fn drops_go()
 pub fn accounts()
     ensures { ledgers.Accounts }
 {}
+
+/// A call that sends a signal lets one come, and a call that ignores it lets all go.
+pub fn sends_come()
+    ensures { ledgers.SendsCome }
+{}

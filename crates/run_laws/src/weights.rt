@@ -30,11 +30,12 @@ pub fn light_moves()
     ensures end { EndWeighsNothing }
 {}
 
-/// A yield changes one record, a mutex that is handed over two, a broadcast to three waiters four, a create two, and
+/// A yield and a signal that is sent change one record, a mutex that is handed over two, a broadcast to three waiters four, a create two, and
 /// the end of a thread that is joined two.
-#[tactic(auto, using(crate::proofs::WeightExampleLemmas::yield_weighs, crate::proofs::WeightExampleLemmas::hand_over_weighs, crate::proofs::WeightExampleLemmas::broadcast_weighs, crate::proofs::WeightExampleLemmas::create_weighs, crate::proofs::WeightExampleLemmas::end_weighs))]
+#[tactic(auto, using(crate::proofs::WeightExampleLemmas::yield_weighs, crate::proofs::WeightExampleLemmas::kill_weighs, crate::proofs::WeightExampleLemmas::hand_over_weighs, crate::proofs::WeightExampleLemmas::broadcast_weighs, crate::proofs::WeightExampleLemmas::create_weighs, crate::proofs::WeightExampleLemmas::end_weighs))]
 pub fn weights_of_calls()
     ensures yields { examples.YieldWeighs }
+    ensures kill { examples.KillWeighs }
     ensures hand_over { examples.HandOverWeighs }
     ensures broadcast { examples.BroadcastWeighs }
     ensures create { examples.CreateWeighs }
