@@ -6,18 +6,18 @@ use Rattle.thread_base.specs.Priority.{first_greatest, greatest}
 use Rattle.thread_base.proofs.PriorityLemmas.{first_in}
 use Rattle.rv_exec.specs.declared.Event.{Event}
 use Rattle.rv_exec.specs.declared.Event.TheVariants.{Next, Ecall, Fault, Return}
-use Rattle.posix_model.specs.State.{State, Thread, none_pending, is_ready}
+use Rattle.posix_model.specs.State.{State}
 use Rattle.posix_model.specs.Changes.{Outcome}
 use Rattle.posix_model.specs.Good.{IsGood}
 use Rattle.posix_model.specs.Reports.{nothing_told}
 use Rattle.posix_model.specs.Scheduling.{eff, chosen}
 use Rattle.posix_model.specs.declared.Report.{Report}
 use Rattle.posix_model.proofs.GoodMoves.{instructions_keep_good}
-use Rattle.posix_model.proofs.StandingLemmas.{ready_live, kept}
+use Rattle.posix_model.proofs.StandingLemmas.{ready_live}
 use Rattle.kernel_state.specs.View.{view, outcome, StayCurrent}
 use Rattle.kernel_state.specs.Changing.{owed, AllCan, IsListed}
 use Rattle.kernel_state.specs.Executing.{HasExecuted}
-use Rattle.kernel_state.specs.Kernels.{KernelState, remaining, IsEmpty, IsIdle, told, with_main, owed_by, IsSteady, IsInPhase, IsSoundKernel}
+use Rattle.kernel_state.specs.Kernels.{KernelState, remaining, IsEmpty, IsIdle, told, with_main, owed_by, IsInPhase, IsSoundKernel}
 use Rattle.kernel_state.specs.Begun.{CanBegin, CanNote}
 use Rattle.kernel_state.specs.Moves.{InProgress, HasMade, MakesOne, MakesLast, IsStep}
 use Rattle.kernel_state.specs.Small.{IsSmall}
@@ -46,41 +46,37 @@ pub chosen_alone : (s : State) (t : ℕ) → s.ready ≡ t ∷ [] → chosen s �
 unfolding chosen
 chosen_alone s t alone = ap (first_greatest (eff s)) alone ∙ first_alone (eff s) t
 
--- an instruction of the chosen thread, up to what its event asks for, keeps the state steady
-steady_executed : (s r : State) (t : ℕ) (event : Event) → IsSteady s → chosen s ≡ Some t → HasExecuted s t event r → IsSteady r
-steady_executed s r t Next steady first h =
-    subst IsSteady (sym h.3)
-    (record {
-      good = (instructions_keep_good s t steady.good first).0 h.0 h.1;
-      prompt = λ u sig some. kept (λ (x : Thread). is_ready x.standing) s.threads t u (record (s.threads t) { registers = h.0 }) refl ∙ steady.prompt u sig some;
-    })
-steady_executed s r t Ecall steady first h = subst IsSteady (sym h.1) steady
-steady_executed s r t (Fault signal) steady first h = subst IsSteady (sym h.1) steady
-steady_executed s r t (Return which) steady first h = subst IsSteady (sym h.1) steady
+-- an instruction of the chosen thread, up to what its event asks for, keeps the state good
+good_executed : (s r : State) (t : ℕ) (event : Event) → IsGood s → chosen s ≡ Some t → HasExecuted s t event r → IsGood r
+good_executed s r t Next good first h =
+    subst IsGood (sym h.3) ((instructions_keep_good s t good first).0 h.0 h.1)
+good_executed s r t Ecall good first h = subst IsGood (sym h.1) good
+good_executed s r t (Fault signal) good first h = subst IsGood (sym h.1) good
+good_executed s r t (Return which) good first h = subst IsGood (sym h.1) good
 
 module _ {R : Type 0} (order : R → List ℕ) (prios : R → ℕ → ℕ) (k : KernelState R) (sound : IsSoundKernel order prios k) where
   -- while no move is in progress
-  pub rests : k.main ≡ None → IsSteady (view order k.tables) × (k.tables.report ≡ nothing_told)
+  pub rests : k.main ≡ None → IsGood (view order k.tables) × (k.tables.report ≡ nothing_told)
   rests idle = subst (IsInPhase order k) idle sound.phase
 
   -- a move may begin where small changes can be noted
   pub can_note : (t : ℕ) → CanBegin order k t → CanNote order k t
   can_note t can =
       let at_rest = rests can.idle.main in
-      record { idle = can.idle; untold = at_rest.1; good = at_rest.0.good; listed = chosen_listed (view order k.tables) t at_rest.0.good can.first; calm = can.calm }
+      record { idle = can.idle; untold = at_rest.1; good = at_rest.0; listed = chosen_listed (view order k.tables) t at_rest.0 can.first; few = can.few }
 
   -- the tables change while no move is in progress
-  pub sound_rested : (tables : Tables R) → k.main ≡ None → IsSteady (view order tables) → tables.report ≡ k.tables.report → StayCurrent order prios k.tables tables
+  pub sound_rested : (tables : Tables R) → k.main ≡ None → IsGood (view order tables) → tables.report ≡ k.tables.report → StayCurrent order prios k.tables tables
       → IsSoundKernel order prios (record k { tables = tables })
-  sound_rested tables idle steady report current = record {
+  sound_rested tables idle good report current = record {
     current = current sound.current;
-    phase = subst (IsInPhase order (record k { tables = tables })) (sym idle) (steady, report ∙ (rests idle).1);
+    phase = subst (IsInPhase order (record k { tables = tables })) (sym idle) (good, report ∙ (rests idle).1);
   }
 
-  pub sound_executed : (tables : Tables R) (event : Event) → k.main ≡ None → chosen (view order k.tables) ≡ Some k.tables.placed → HasExecuted (view order k.tables) k.tables.placed event (view order tables)
+  pub sound_executed : (tables : Tables R) (event : Event) → k.main ≡ None → chosen (view order k.tables) ≡ Some k.tables.records.placed → HasExecuted (view order k.tables) k.tables.records.placed event (view order tables)
       → tables.report ≡ k.tables.report → StayCurrent order prios k.tables tables → IsSoundKernel order prios (record k { tables = tables })
   sound_executed tables event idle first executed report current =
-      sound_rested tables idle (steady_executed (view order k.tables) (view order tables) k.tables.placed event (rests idle).0 first executed) report current
+      sound_rested tables idle (good_executed (view order k.tables) (view order tables) k.tables.records.placed event (rests idle).0 first executed) report current
 
   -- the tables change and show the same
   pub sound_placed : (tables : Tables R) → view order tables ≡ view order k.tables → tables.report ≡ k.tables.report → StayCurrent order prios k.tables tables
@@ -92,11 +88,11 @@ module _ {R : Type 0} (order : R → List ℕ) (prios : R → ℕ → ℕ) (k : 
       both = λ i. record { state = same i; report = report i }
 
       phase : (main : Option MainLine) → IsInPhase order k main → IsInPhase order (record k { tables = tables }) main
-      phase None h = (subst IsSteady (sym same) h.0, report ∙ h.1)
+      phase None h = (subst IsGood (sym same) h.0, report ∙ h.1)
       phase (Some main) h = (
         h.0,
         subst (λ g. AllCan g (remaining k.rest)) (sym both) h.1,
-        subst (λ g. IsSteady (owed g (remaining k.rest)).state) (sym both) h.2,
+        subst (λ g. IsGood (owed g (remaining k.rest)).state) (sym both) h.2,
       )
 
   -- a small change is noted
@@ -104,18 +100,18 @@ module _ {R : Type 0} (order : R → List ℕ) (prios : R → ℕ → ℕ) (k : 
   sound_noted rest idle = record { current = sound.current; phase = subst (IsInPhase order (record k { rest = rest })) (sym idle) (rests idle) }
 
   -- a move begins
-  pub sound_begun : (main : MainLine) → is_nil (remaining k.rest) ≡ false → AllCan (outcome order k.tables) (remaining k.rest) → IsSteady (owed (outcome order k.tables) (remaining k.rest)).state
+  pub sound_begun : (main : MainLine) → is_nil (remaining k.rest) ≡ false → AllCan (outcome order k.tables) (remaining k.rest) → IsGood (owed (outcome order k.tables) (remaining k.rest)).state
       → IsSoundKernel order prios (record k { main = Some main })
-  sound_begun main some can steady = record { current = sound.current; phase = (some, can, steady) }
+  sound_begun main some can good = record { current = sound.current; phase = (some, can, good) }
 
   -- a move is in progress
   module _ (on : InProgress k) where
-    -- some of its changes are left and can be made, and the state is steady when all are made
-    pub progress : (is_nil (remaining k.rest) ≡ false) × AllCan (outcome order k.tables) (remaining k.rest) × IsSteady (owed (outcome order k.tables) (remaining k.rest)).state
+    -- some of its changes are left and can be made, and the state is good when all are made
+    pub progress : (is_nil (remaining k.rest) ≡ false) × AllCan (outcome order k.tables) (remaining k.rest) × IsGood (owed (outcome order k.tables) (remaining k.rest)).state
     progress = by k.main sound.phase on
       where
         by : (main : Option MainLine) → IsInPhase order k main → is_some main ≡ true
-            → (is_nil (remaining k.rest) ≡ false) × AllCan (outcome order k.tables) (remaining k.rest) × IsSteady (owed (outcome order k.tables) (remaining k.rest)).state
+            → (is_nil (remaining k.rest) ≡ false) × AllCan (outcome order k.tables) (remaining k.rest) × IsGood (owed (outcome order k.tables) (remaining k.rest)).state
         by None h none = absurd (let e : false ≡ true = none in cc)
         by (Some main) h some = h
 
@@ -133,7 +129,7 @@ module _ {R : Type 0} (order : R → List ℕ) (prios : R → ℕ → ℕ) (k : 
         where
           phase : (main : Option MainLine) → is_some main ≡ true → IsInPhase order (record k { tables = tables; rest = rest }) main
           phase None none = absurd (let e : false ≡ true = none in cc)
-          phase (Some main) is = (some, made.can, subst (λ (g : Outcome). IsSteady g.state) (sym owed_same) progress.2)
+          phase (Some main) is = (some, made.can, subst (λ (g : Outcome). IsGood g.state) (sym owed_same) progress.2)
 
       pub makes_one : is_nil (remaining rest) ≡ false → MakesOne order k (record k { tables = tables; rest = rest })
       makes_one more = record { change = made.change; first = made.first; makes = made.makes; more = more; owed = ap (with_main k.main) owed_same; main = refl; settings = refl }
@@ -155,7 +151,7 @@ module _ {R : Type 0} (order : R → List ℕ) (prios : R → ℕ → ℕ) (k : 
       pub sound_finished : IsSoundKernel order prios (record { tables = tables; rest = rest; main = main; settings = k.settings })
       sound_finished = record {
         current = stays (current sound.current);
-        phase = subst (IsInPhase order (record { tables = tables; rest = rest; main = main; settings = k.settings })) (sym gone) (subst IsSteady (sym state_is) progress.2, untold);
+        phase = subst (IsInPhase order (record { tables = tables; rest = rest; main = main; settings = k.settings })) (sym gone) (subst IsGood (sym state_is) progress.2, untold);
       }
 
       pub makes_last : HasMade order k.tables k.rest last done → MakesLast order k (record { tables = tables; rest = rest; main = main; settings = k.settings })

@@ -10,3 +10,6 @@ pub mod ExecutingLemmas
 pub mod PendingLemmas
 pub mod WakingLemmas
 pub mod SteadyLemmas
+pub mod RecordLemmas
+pub mod SignalLemmas
+pub mod SumLemmas

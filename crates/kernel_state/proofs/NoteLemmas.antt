@@ -5,26 +5,18 @@ use Rattle.std.proofs.Math.Seq.{drop-cons}
 use Rattle.std.proofs.lemmas.Bool.{cases_lt, le-leb, lt-leb}
 use Rattle.std.proofs.lemmas.List.{drop_all}
 use Rattle.thread_base.specs.Orders.{is_nil}
-use Rattle.posix_model.specs.Changes.{Outcome, begun, answer}
-use Rattle.thread_base.specs.Deliveries.{waits_for}
-use Rattle.posix_model.specs.State.{State, Ready}
-use Rattle.posix_model.specs.Deliveries.{Gives, next_delivery, delivered, deliver, set_pending, by_action, told}
+use Rattle.posix_model.specs.Changes.{Outcome, begun}
+use Rattle.posix_model.specs.Good.{IsGood}
 use Rattle.posix_model.specs.Reports.{nothing_told}
-use Rattle.posix_model.specs.declared.Head.TheVariants.{Deliver as DeliverHead, Accept}
-use Rattle.posix_model.specs.declared.Ending.TheVariants.{Killed}
-use Rattle.kernel_state.specs.View.{view, outcome, one_pending}
+use Rattle.kernel_state.specs.View.{view, outcome}
 use Rattle.kernel_state.specs.Changing.{Can, change_by, owed, AllCan}
 use Rattle.kernel_state.specs.declared.change.Change.{Change}
-use Rattle.kernel_state.specs.declared.change.Change.TheVariants.{Signal as OfSignal, Over}
-use Rattle.kernel_state.specs.declared.change.SignalChange.TheVariants.{Take}
 use Rattle.kernel_state.specs.Kernels.{KernelState}
 use Rattle.kernel_state.specs.declared.rest.Rest.{Rest}
 use Rattle.kernel_state.specs.declared.kernel.MainLine.{MainLine}
 use Rattle.kernel_state.specs.declared.tables.Tables.{Tables}
 use Rattle.kernel_state.specs.Begun.{HasNoted, HasNotedSome, NotesMore, CanStart, IsBegun}
-use Rattle.kernel_state.specs.Kernels.{remaining, IsEmpty, IsIdle, with_main, owed_by, IsSteady}
-use Rattle.kernel_state.proofs.PendingLemmas.{pends_once, waits_for_none}
-use Rattle.kernel_state.proofs.ViewLemmas.{IsPlainState}
+use Rattle.kernel_state.specs.Kernels.{remaining, IsEmpty, IsIdle, with_main, owed_by}
 
 -- nothing is left of no move
 pub idle_remaining : (rest : Rest) → IsEmpty rest → remaining rest ≡ []
@@ -127,18 +119,6 @@ next_first xs n d x is h =
     let more : suc n ≡ n + 1 = omega arith in
     drop-cons xs n d h ∙ (λ i. sym is i ∷ drop (more i) xs)
 
--- the changes of a delivery to a ready thread, with its main line, are the next delivery
-pub told_delivery : (s : State) (t sig : ℕ) → IsPlainState s → (s.threads t).standing ≡ Ready → next_delivery s ≡ Some (Gives t sig t) → s.pending ≡ one_pending t sig
-    → with_main (Some (record { thread = t; head = DeliverHead t sig 1 })) (change_by (Over (Killed sig)) (change_by (OfSignal t sig Take) (begun s))) ≡ deliver s
-told_delivery s t sig plain ready next pending =
-    let taken : State = set_pending s t sig 0 in
-    let count = s.pending t sig in
-    let after : State = record taken { over = Some (Killed sig) } in
-    sym (
-    ap (delivered s) next
-    ∙ (λ i. if waits_for (waits_for_none taken t ready i) sig then told t (Accept t sig count) (answer (begun taken) t 0 sig) else by_action taken t sig count (plain.actions i sig))
-    ∙ ap (λ (n : ℕ). record { state = after; report = record nothing_told { tid = t; head = DeliverHead t sig n } }) (pends_once s.pending t sig pending))
-
 -- small changes that were noted can be made on the tables, and come to the same
 module _ {R : Type 0} (order : R → List ℕ) (k q : KernelState R) (g : Outcome) (noted : HasNotedSome order k q g) where
   same_tables : k.tables ≡ q.tables
@@ -150,13 +130,13 @@ module _ {R : Type 0} (order : R → List ℕ) (k q : KernelState R) (g : Outcom
   noted_owed : owed (outcome order q.tables) (remaining q.rest) ≡ g
   noted_owed = subst (λ (x : Tables _). owed (outcome order x) (remaining q.rest) ≡ g) same_tables noted.so_far.owed
 
-  -- their move can begin, where the state is steady to which they lead
-  pub can_start : IsSteady g.state → CanStart order q
-  can_start steady = record {
+  -- their move can begin, where the state is good to which they lead
+  pub can_start : IsGood g.state → CanStart order q
+  can_start good = record {
     idle = ap (λ (x : KernelState _). x.main) noted.so_far.others ∙ noted.so_far.main;
     some = noted.begun;
     can = noted_can;
-    steady = subst (λ (x : Outcome). IsSteady x.state) (sym noted_owed) steady;
+    good = subst (λ (x : Outcome). IsGood x.state) (sym noted_owed) good;
   }
 
   -- a move was begun: its changes were noted, then its thread and main line

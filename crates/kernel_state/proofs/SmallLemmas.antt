@@ -9,14 +9,20 @@ use Rattle.thread_base.specs.Objects.{Mutex, Condition, with_waiters, with_holde
 use Rattle.thread_base.specs.Orders.{without, is_in}
 use Rattle.thread_base.proofs.MapLemmas.{put_same, put_other, kept}
 use Rattle.thread_base.proofs.OrderLemmas.{not_in-without, without_absent}
-use Rattle.posix_model.specs.State.{State, Thread, none_pending, no_keys}
+use Rattle.posix_model.specs.State.{State, Thread, no_keys}
+use Rattle.posix_model.specs.Deliveries.{set_pending, left_of}
+use Rattle.posix_model.specs.Arrivals.{dropped}
+use Rattle.posix_model.specs.SignalCalls.{forgotten}
+use Rattle.thread_base.specs.Actions.{ignores}
+use Rattle.thread_base.specs.declared.action.Action.{Action}
+use Rattle.thread_signals.specs.Counts.{place_of}
 use Rattle.posix_model.specs.Changes.{Outcome, resumed}
 use Rattle.posix_model.specs.Leaving.{without_thread, over_with_last}
 use Rattle.posix_model.specs.Mutexes.{retake, retake_of, give, requeue}
 use Rattle.posix_model.specs.Threads.{some_live}
 use Rattle.posix_model.specs.declared.Ending.TheVariants.{Exit}
 use Rattle.posix_model.specs.declared.RetakeReply.{RetakeReply}
-use Rattle.kernel_state.specs.Changing.{Can, CanMutex, CanCondition, CanThread, HasNoMutex, change_by, thread_change_by, mutex_change_by, condition_change_by, remains_of}
+use Rattle.kernel_state.specs.Changing.{Can, CanMutex, CanCondition, CanThread, HasNoMutex, change_by, thread_change_by, signal_change_by, mutex_change_by, condition_change_by, remains_of}
 use Rattle.kernel_state.specs.Small.{Object, TheMutex, TheCondition, TheSignal, TheEnding, bare, IsSame, ThreadList, ReadyList, MutexWaiters, CondWaiters, threads_of_list, IsUnmoved, IsSmall}
 use Rattle.kernel_state.specs.View.{with_ready}
 use Rattle.kernel_state.specs.declared.change.Change.{Change}
@@ -26,8 +32,9 @@ use Rattle.kernel_state.specs.declared.change.ConditionChange.TheVariants.{Make 
 use Rattle.kernel_state.specs.declared.change.MutexChange.{MutexChange}
 use Rattle.kernel_state.specs.declared.change.MutexChange.TheVariants.{Make as MakeMutex, Destroy as DestroyMutex, Hold, AddWaiter, DropWaiter}
 use Rattle.kernel_state.specs.declared.change.SignalChange.{SignalChange}
+use Rattle.kernel_state.specs.declared.change.SignalChange.TheVariants.{Pend, Take, Drop as DropAll, Lose, Act}
 use Rattle.kernel_state.specs.declared.change.ThreadChange.{ThreadChange}
-use Rattle.kernel_state.specs.declared.change.ThreadChange.TheVariants.{Reply, ToEnd, Create, StartExit, Await, Answer, Detach, Free, End}
+use Rattle.kernel_state.specs.declared.change.ThreadChange.TheVariants.{Reply, ToEnd, Create, StartExit, Await, Answer, Resume, Block, Handle, GoBack, Detach, Free, End}
 use Rattle.kernel_state.proofs.ViewLemmas.{gone_calmly}
 
 -- one thread is put in, taken out or moved
@@ -77,12 +84,12 @@ no_cond_waiters None h = refl
 no_cond_waiters (Some condition) h = absurd (let e : true ≡ false = h in cc)
 
 still : (s : State) → IsUnmoved s s
-still s = (refl, refl, refl, refl, refl, refl, refl)
+still s = (refl, refl, refl, refl, refl, refl)
 
 -- beside the record of a thread, its place in the ready list and the ending nothing changes
 small_thread : (s r : State) (t : ℕ) → ((u : ℕ) → u ≢ t → r.threads u ≡ s.threads u) → without t r.ready ≡ without t s.ready → r.mutexes ≡ s.mutexes → r.conditions ≡ s.conditions
-    → r.pending ≡ s.pending → IsUnmoved s r → IsSmall s r
-small_thread s r t threads ready mutexes conditions pending others = record {
+    → r.pending ≡ s.pending → r.actions ≡ s.actions → IsUnmoved s r → IsSmall s r
+small_thread s r t threads ready mutexes conditions pending actions others = record {
   thread = t;
   object = TheEnding;
   list = ReadyList;
@@ -97,7 +104,7 @@ small_thread s r t threads ready mutexes conditions pending others = record {
     objects : (o : Object) → o ≢ TheEnding → IsSame o s r
     objects (TheMutex m) ne = ap (λ (f : ℕ → Option Mutex). with_waiters (λ ts. []) (f m)) mutexes
     objects (TheCondition c) ne = ap (λ (f : ℕ → Option Condition). bare (f c)) conditions
-    objects (TheSignal sig) ne = λ u. ap (λ (f : ℕ → ℕ → ℕ). f u sig) pending
+    objects (TheSignal sig) ne = (ap (λ (f : ℕ → Action). f sig) actions, λ u. ap (λ (f : ℕ → ℕ → ℕ). f u sig) pending)
     objects TheEnding ne = absurd (ne refl)
 
     lists : (l : ThreadList) → l ≢ ReadyList → threads_of_list l r ≡ threads_of_list l s
@@ -126,7 +133,7 @@ small_mutex s m t threads o others place = record {
     objects : (b : Object) → b ≢ TheMutex m → IsSame b s r
     objects (TheMutex k) ne = ap (with_waiters (λ ts. [])) (put_other s.mutexes m o k (λ e. ne (ap TheMutex e)))
     objects (TheCondition c) ne = refl
-    objects (TheSignal sig) ne = λ u. refl
+    objects (TheSignal sig) ne = (refl, λ u. refl)
     objects TheEnding ne = refl
 
     lists : (l : ThreadList) → l ≢ MutexWaiters m → threads_of_list l r ≡ threads_of_list l s
@@ -155,7 +162,7 @@ small_condition s c t o place = record {
     objects : (b : Object) → b ≢ TheCondition c → IsSame b s r
     objects (TheMutex m) ne = refl
     objects (TheCondition k) ne = ap bare (put_other s.conditions c o k (λ e. ne (ap TheCondition e)))
-    objects (TheSignal sig) ne = λ u. refl
+    objects (TheSignal sig) ne = (refl, λ u. refl)
     objects TheEnding ne = refl
 
     lists : (l : ThreadList) → l ≢ CondWaiters c → threads_of_list l r ≡ threads_of_list l s
@@ -163,13 +170,14 @@ small_condition s c t o place = record {
     lists (MutexWaiters m) ne = refl
     lists (CondWaiters k) ne = ap cond_waiters (put_other s.conditions c o k (λ e. ne (ap CondWaiters e)))
 
--- beside what pends of a signal nothing changes
-small_signal : (s : State) (t sig n : ℕ) → IsSmall s (record s { pending = put s.pending t (put (s.pending t) sig n) })
-small_signal s t sig n = record {
-  thread = t;
+-- beside what pends of a signal and its action nothing changes
+small_signal : (s : State) (sig : ℕ) (pending : ℕ → ℕ → ℕ) (actions : ℕ → Action) → ((t k : ℕ) → k ≢ sig → pending t k ≡ s.pending t k) → ((k : ℕ) → k ≢ sig → actions k ≡ s.actions k)
+    → IsSmall s (record s { pending = pending; actions = actions })
+small_signal s sig pending actions others_pend others_act = record {
+  thread = 0;
   object = TheSignal sig;
   list = ReadyList;
-  placed = t;
+  placed = 0;
   threads = λ u ne. refl;
   objects = objects;
   lists = lists;
@@ -178,19 +186,43 @@ small_signal s t sig n = record {
 }
   where
     r : State
-    r = record s { pending = put s.pending t (put (s.pending t) sig n) }
+    r = record s { pending = pending; actions = actions }
 
     objects : (b : Object) → b ≢ TheSignal sig → IsSame b s r
     objects (TheMutex m) ne = refl
     objects (TheCondition c) ne = refl
-    objects (TheSignal k) ne = λ u.
-        kept (λ (row : ℕ → ℕ). row k) s.pending t u (put (s.pending t) sig n) (put_other (s.pending t) sig n k (λ e. ne (ap TheSignal e)))
+    objects (TheSignal k) ne = (others_act k (λ e. ne (ap TheSignal e)), λ u. others_pend u k (λ e. ne (ap TheSignal e)))
     objects TheEnding ne = refl
 
     lists : (l : ThreadList) → l ≢ ReadyList → threads_of_list l r ≡ threads_of_list l s
     lists ReadyList ne = refl
     lists (MutexWaiters m) ne = refl
     lists (CondWaiters c) ne = refl
+
+-- another count in one place
+small_count : (s : State) (t sig n : ℕ) → IsSmall s (set_pending s t sig n)
+small_count s t sig n =
+    small_signal s sig (put s.pending t (put (s.pending t) sig n)) s.actions
+    (λ u k ne. kept (λ (row : ℕ → ℕ). row k) s.pending t u (put (s.pending t) sig n) (put_other (s.pending t) sig n k ne)) (λ k ne. refl)
+
+-- nothing at all
+small_none : (s : State) → IsSmall s s
+small_none s = small_thread s s 0 (λ u ne. refl) refl refl refl refl refl (still s)
+
+small_of_signal : (change : SignalChange) (sig : ℕ) (g : Outcome) → IsSmall g.state (signal_change_by change sig g).state
+small_of_signal (Pend place count) sig g = small_count g.state (place_of place) sig _
+small_of_signal (Take place) sig g = small_count g.state (place_of place) sig 0
+small_of_signal (DropAll place) sig g = small_count g.state (place_of place) sig 0
+small_of_signal (Lose count) sig g = small_none g.state
+small_of_signal (Act action) sig g =
+    elim (ignores action sig) as (λ b. IsSmall g.state (if b
+    then dropped (record g { state = record g.state { actions = put g.state.actions sig action; pending = forgotten sig g.state.pending } }) sig (left_of g.state sig)
+    else record g { state = record g.state { actions = put g.state.actions sig action } }).state) [
+      | true ↦
+          small_signal g.state sig (forgotten sig g.state.pending) (put g.state.actions sig action)
+          (λ t k ne. put_other (g.state.pending t) sig 0 k ne) (λ k ne. put_other g.state.actions sig action k ne)
+      | false ↦ small_signal g.state sig g.state.pending (put g.state.actions sig action) (λ t k ne. refl) (λ k ne. put_other g.state.actions sig action k ne)
+    ]
 
 -- a waiting thread gets a mutex and becomes ready
 small_given : (s : State) (m t : ℕ) (mutex : Mutex) (h : _) (thread : Thread) → s.mutexes m ≡ Some mutex
@@ -216,7 +248,7 @@ small_given s m t mutex h thread here = record {
     objects : (b : Object) → b ≢ TheMutex m → IsSame b s r
     objects (TheMutex k) ne = ap (with_waiters (λ ts. [])) (put_other s.mutexes m given k (λ e. ne (ap TheMutex e)))
     objects (TheCondition c) ne = refl
-    objects (TheSignal sig) ne = λ u. refl
+    objects (TheSignal sig) ne = (refl, λ u. refl)
     objects TheEnding ne = refl
 
     lists : (l : ThreadList) → l ≢ ReadyList → threads_of_list l r ≡ threads_of_list l s
@@ -226,7 +258,7 @@ small_given s m t mutex h thread here = record {
 
 -- a mutex is taken back at once, or waited for
 small_retake : (g : Outcome) (m t count : ℕ) (reply : RetakeReply) (o : Option Mutex) → g.state.mutexes m ≡ o → IsSmall g.state (retake_of g m o t count reply).state
-small_retake g m t count reply None here = small_thread g.state g.state t (λ u ne. refl) refl refl refl refl (still g.state)
+small_retake g m t count reply None here = small_thread g.state g.state t (λ u ne. refl) refl refl refl refl refl (still g.state)
 small_retake g m t count reply (Some mutex) here =
     elim (is_free mutex.holder) as (λ b. IsSmall g.state (if b then give g m mutex t count reply else requeue g m mutex t count reply).state) [
       | true ↦ small_given g.state m t mutex _ _ here
@@ -234,26 +266,30 @@ small_retake g m t count reply (Some mutex) here =
     ]
 
 -- a thread is gone that had no mutex and on which nothing pended
-small_end : (g : Outcome) (t : ℕ) (left : Thread) → g.state.pending ≡ none_pending → HasNoMutex g.state t → g.state.keys ≡ no_keys → IsSmall g.state (over_with_last (without_thread g.state t left))
+small_end : (g : Outcome) (t : ℕ) (left : Thread) → ((sig : ℕ) → g.state.pending t sig ≡ 0) → HasNoMutex g.state t → g.state.keys ≡ no_keys → IsSmall g.state (over_with_last (without_thread g.state t left))
 small_end g t left calm none keyless =
     let s = g.state in
     let gone = gone_calmly s t left calm none keyless in
     subst (λ x. IsSmall s (over_with_last x)) gone
     (elim (some_live (record s { threads = put s.threads t left; ready = without t s.ready }))
     as (λ b. IsSmall s (if b then record s { threads = put s.threads t left; ready = without t s.ready } else record s { threads = put s.threads t left; ready = without t s.ready; over = Some (Exit 0) })) [
-      | true ↦ small_thread s _ t (λ u ne. put_other s.threads t left u ne) (without_twice t s.ready) refl refl refl (still s)
-      | false ↦ small_thread s _ t (λ u ne. put_other s.threads t left u ne) (without_twice t s.ready) refl refl refl (still s)
+      | true ↦ small_thread s _ t (λ u ne. put_other s.threads t left u ne) (without_twice t s.ready) refl refl refl refl (still s)
+      | false ↦ small_thread s _ t (λ u ne. put_other s.threads t left u ne) (without_twice t s.ready) refl refl refl refl (still s)
     ])
 
 small_of_thread : (change : ThreadChange) (t : ℕ) (g : Outcome) → CanThread change t g.state → IsSmall g.state (thread_change_by change t g).state
-small_of_thread (Reply error value) t g can = small_thread g.state _ t (λ u ne. put_other g.state.threads t _ u ne) refl refl refl refl (still g.state)
-small_of_thread ToEnd t g can = small_thread g.state _ t (λ u ne. put_other g.state.threads t _ u ne) (moved t g.state.ready) refl refl refl (still g.state)
-small_of_thread (Create beginning) t g can = small_thread g.state _ t (λ u ne. put_other g.state.threads t _ u ne) (without_pushed t g.state.ready) refl refl refl (still g.state)
-small_of_thread (StartExit value) t g can = small_thread g.state _ t (λ u ne. put_other g.state.threads t _ u ne) refl refl refl refl (still g.state)
-small_of_thread (Await wait) t g can = small_thread g.state _ t (λ u ne. put_other g.state.threads t _ u ne) (without_twice t g.state.ready) refl refl refl (still g.state)
-small_of_thread (Answer error value) t g can = small_thread g.state _ t (λ u ne. put_other g.state.threads t _ u ne) (without_pushed t g.state.ready) refl refl refl (still g.state)
-small_of_thread Detach t g can = small_thread g.state _ t (λ u ne. put_other g.state.threads t _ u ne) refl refl refl refl (still g.state)
-small_of_thread Free t g can = small_thread g.state _ t (λ u ne. put_other g.state.threads t _ u ne) refl refl refl refl (still g.state)
+small_of_thread (Reply error value) t g can = small_thread g.state _ t (λ u ne. put_other g.state.threads t _ u ne) refl refl refl refl refl (still g.state)
+small_of_thread ToEnd t g can = small_thread g.state _ t (λ u ne. put_other g.state.threads t _ u ne) (moved t g.state.ready) refl refl refl refl (still g.state)
+small_of_thread (Create beginning) t g can = small_thread g.state _ t (λ u ne. put_other g.state.threads t _ u ne) (without_pushed t g.state.ready) refl refl refl refl (still g.state)
+small_of_thread (StartExit value) t g can = small_thread g.state _ t (λ u ne. put_other g.state.threads t _ u ne) refl refl refl refl refl (still g.state)
+small_of_thread (Await wait) t g can = small_thread g.state _ t (λ u ne. put_other g.state.threads t _ u ne) (without_twice t g.state.ready) refl refl refl refl (still g.state)
+small_of_thread (Answer error value) t g can = small_thread g.state _ t (λ u ne. put_other g.state.threads t _ u ne) (without_pushed t g.state.ready) refl refl refl refl (still g.state)
+small_of_thread Resume t g can = small_thread g.state _ t (λ u ne. put_other g.state.threads t _ u ne) (without_pushed t g.state.ready) refl refl refl refl (still g.state)
+small_of_thread (Block mask) t g can = small_thread g.state _ t (λ u ne. put_other g.state.threads t _ u ne) refl refl refl refl refl (still g.state)
+small_of_thread (Handle signal at mask) t g can = small_thread g.state _ t (λ u ne. put_other g.state.threads t _ u ne) refl refl refl refl refl (still g.state)
+small_of_thread GoBack t g can = small_thread g.state _ t (λ u ne. put_other g.state.threads t _ u ne) refl refl refl refl refl (still g.state)
+small_of_thread Detach t g can = small_thread g.state _ t (λ u ne. put_other g.state.threads t _ u ne) refl refl refl refl refl (still g.state)
+small_of_thread Free t g can = small_thread g.state _ t (λ u ne. put_other g.state.threads t _ u ne) refl refl refl refl refl (still g.state)
 small_of_thread (End value joined) t g can = small_end g t (remains_of (g.state.threads t) value joined) can.1 can.2 can.3
 
 -- a mutex changes, and a place among its waiters
@@ -277,8 +313,8 @@ pub small_change : (change : Change) (g : Outcome) → Can change g → IsSmall 
 small_change (OfThread t change) g can = small_of_thread change t g can
 small_change (OfMutex m change) g can = small_of_mutex change m g.state can
 small_change (OfCondition c change) g can = small_of_condition change c g.state can
-small_change (OfSignal t sig change) g can = small_signal g.state t sig _
+small_change (OfSignal sig change) g can = small_of_signal change sig g
 small_change (Retake t m count reply) g can = small_retake g m t count reply (g.state.mutexes m) refl
-small_change (Output descriptor buffer size) g can = small_thread g.state g.state 0 (λ u ne. refl) refl refl refl refl (still g.state)
-small_change (Over ending) g can = small_thread g.state _ 0 (λ u ne. refl) refl refl refl refl (still g.state)
-small_change (Kill signal count) g can = small_thread g.state _ 0 (λ u ne. refl) refl refl refl refl (still g.state)
+small_change (Output descriptor buffer size) g can = small_thread g.state g.state 0 (λ u ne. refl) refl refl refl refl refl (still g.state)
+small_change (Over ending) g can = small_thread g.state _ 0 (λ u ne. refl) refl refl refl refl refl (still g.state)
+small_change (Kill signal count) g can = small_thread g.state _ 0 (λ u ne. refl) refl refl refl refl refl (still g.state)

@@ -1,46 +1,38 @@
 -- The tables at the start of a run.
-use Rattle.std.proofs.Common.{◌≡◌, ◌≢◌, ◌∙◌, ap, sym, refl, arith, ℕ, true, false, not, List, [], ◌∷◌, length, Option, Some, None}
+use Rattle.std.proofs.Common.{◌≡◌, ◌∙◌, ap, sym, refl, arith, ℕ, true, false, not, List, [], ◌∷◌, length, None}
 use Rattle.thread_base.specs.Maps.{put}
 use Rattle.thread_base.specs.Orders.{is_in}
-use Rattle.thread_base.specs.Priority.{tids}
-use Rattle.thread_base.proofs.MapLemmas.{put_is, put_same, put_other, at_same}
+use Rattle.thread_base.proofs.MapLemmas.{put_same, at_same}
 use Rattle.cond_table.specs.ConditionMap.{conditions as condition_map}
 use Rattle.mutex_table.specs.MutexMap.{mutexes as mutex_map}
-use Rattle.thread_table.specs.Rows.{rows, free_number, put_found}
-use Rattle.thread_table.specs.declared.Row.{Row}
-use Rattle.posix_model.specs.State.{State, Thread, is_absent, is_ready, no_thread}
+use Rattle.posix_model.specs.State.{State, Thread, is_absent, is_ready, no_thread, none_pending, default_actions}
 use Rattle.posix_model.specs.Start.{start_state, start_registers, main_thread}
-use Rattle.kernel_state.specs.View.{unkept, view, AreCurrent, thread_of, threads_of, activities_of, contexts_of, pending_of, no_activity, main_row}
+use Rattle.kernel_state.specs.Records.{threads_in, pending_in, actions_in, first_threads}
+use Rattle.kernel_state.specs.View.{unkept, view, AreCurrent}
+use Rattle.thread_base.specs.Deliveries.{signals}
+use Rattle.thread_base.specs.Priority.{tids}
+use Rattle.posix_model.specs.Weights.{pending_in_all}
+use Rattle.kernel_state.specs.Begun.{HasRoom}
 use Rattle.kernel_state.specs.Changing.{IsListed}
 use Rattle.kernel_state.specs.declared.tables.Tables.{Tables}
 use Rattle.kernel_state.proofs.CurrentLemmas.{come_current}
 
--- the first number is free where none is in use
-first_free : free_number (λ t. None) ≡ Some 1
-unfolding tids
-first_free = refl
-
-pub first_made : (map none : ℕ → Option Row) (row given : Row) (result : Option ℕ) → none ≡ (λ t. None) → row ≡ main_row → result ≡ free_number none → map ≡ put_found none result row
-    → map ≡ put (λ t. None) 1 (Some main_row)
-first_made map none row given result e f g h =
-    h
-    ∙ ap (λ o. put_found none o row) (g ∙ ap free_number e ∙ first_free)
-    ∙ ap (λ (m : ℕ → Option Row). put m 1 (Some row)) e
-    ∙ ap (λ (r : Row). put (λ t. None) 1 (Some r)) f
-
 module _ {R : Type 0} (order : R → List ℕ) where
-  pub view_start : (k : Tables R) (memory : List ℕ) (entry : ℕ) → rows k.threads ≡ put (λ t. None) 1 (Some main_row) → activities_of k.activities ≡ (λ t. no_activity)
-      → contexts_of k 1 ≡ start_registers (length memory) entry → order k.ready ≡ 1 ∷ [] → mutex_map k.mutexes ≡ (λ m. None) → condition_map k.conditions ≡ (λ c. None) → k.fault ≡ None → k.memory ≡ memory → k.over ≡ None
+  pub view_start : (k : Tables R) (memory : List ℕ) (entry : ℕ) → threads_in k.records ≡ first_threads (start_registers (length memory) entry) → pending_in k.records ≡ none_pending
+      → actions_in k.records ≡ default_actions → order k.ready ≡ 1 ∷ [] → mutex_map k.mutexes ≡ (λ m. None) → condition_map k.conditions ≡ (λ c. None) → k.ticks ≡ 0 → k.memory ≡ memory → k.over ≡ None
       → view order k ≡ start_state memory entry
   unfolding view
-  view_start k memory entry a b c d h n e f g =
-      let at_one : rows k.threads 1 ≡ Some main_row = ap (λ (m : ℕ → Option Row). m 1) a ∙ put_same (λ t. None) 1 (Some main_row) in
-      let at_other : (u : ℕ) → u ≢ 1 → rows k.threads u ≡ None = λ u ne. ap (λ (m : ℕ → Option Row). m u) a ∙ put_other (λ t. None) 1 (Some main_row) u ne in
-      let threads : threads_of (rows k.threads) (activities_of k.activities) (contexts_of k) ≡ put (λ t. no_thread) 1 (main_thread (length memory) entry) =
-      put_is (λ t. no_thread) (threads_of (rows k.threads) (activities_of k.activities) (contexts_of k)) 1 (main_thread (length memory) entry)
-      (λ i. thread_of (at_one i) (b i 1) (c i))
-      (λ u ne i. thread_of (at_other u ne i) (activities_of k.activities u) (contexts_of k u)) in
-      λ i. record unkept { threads = threads i; ready = d i; mutexes = h i; conditions = n i; pending = pending_of (e i); memory = f i; over = g i }
+  view_start k memory entry a b c d h n w f g = λ i. record unkept {
+    threads = a i;
+    ready = d i;
+    mutexes = h i;
+    conditions = n i;
+    actions = c i;
+    pending = b i;
+    now = w i;
+    memory = f i;
+    over = g i;
+  }
 
 -- nobody is ready
 no_one : (p : ℕ → ℕ) (s : State) → s.ready ≡ [] → AreCurrent p s
@@ -59,3 +51,8 @@ pub start_listed : (memory : List ℕ) (entry : ℕ) → IsListed (start_state m
 start_listed memory entry =
     let here = put_same (λ t. no_thread) 1 (main_thread (length memory) entry) in
     (ap (λ (x : Thread). not (is_absent x.standing)) here, refl, ap (λ (x : Thread). is_ready x.standing) here)
+
+-- nothing pends at the start
+pub start_room : (memory : List ℕ) (entry : ℕ) → HasRoom (start_state memory entry)
+unfolding pending_in_all signals tids
+start_room memory entry = omega arith

@@ -1,7 +1,8 @@
 -- What a move may begin on, and that its small changes were noted.
-use Rattle.std.specs.Prelude.{ℕ, ◌≡◌, ◌≤◌, slice_index, false, List, length, Some, None}
+use Rattle.std.specs.Prelude.{ℕ, ◌≡◌, ◌≤◌, ◌<◌, ◌^◌, slice_index, false, List, length, Some, None}
 use Rattle.thread_base.specs.Orders.{is_nil}
-use Rattle.posix_model.specs.State.{none_pending}
+use Rattle.posix_model.specs.State.{State}
+use Rattle.posix_model.specs.Weights.{pending_in_all}
 use Rattle.posix_model.specs.Good.{IsGood}
 use Rattle.posix_model.specs.Changes.{Outcome}
 use Rattle.posix_model.specs.Scheduling.{chosen}
@@ -10,25 +11,29 @@ use Rattle.posix_model.specs.Reports.{nothing_told}
 use Rattle.kernel_state.specs.View.{view, outcome}
 use Rattle.kernel_state.specs.Changing.{Can, change_by, IsListed, owed, AllCan}
 use Rattle.kernel_state.specs.declared.change.Change.{Change}
-use Rattle.kernel_state.specs.Kernels.{KernelState, remaining, IsIdle, owed_by, IsSteady}
+use Rattle.kernel_state.specs.Kernels.{KernelState, remaining, IsIdle, owed_by}
 use Rattle.kernel_state.specs.Moves.{InProgress}
 
--- an instruction of the thread may begin a move: none is in progress, the process is not over, nothing pends, and the
--- thread is the chosen one
+-- what pends is far below the limit of its sum
+abbrev pub HasRoom : State → Type 0
+HasRoom s = pending_in_all s < 2 ^ 62
+
+-- an instruction of the thread may begin a move: none is in progress, the process is not over, what pends leaves room for
+-- more, and the thread is the chosen one
 pub record CanBegin {R : Type 0} (order : R → List ℕ) (k : KernelState R) (t : ℕ) : Type 0 where
   pub idle : IsIdle k
   pub going_on : (view order k.tables).over ≡ None
-  pub calm : (view order k.tables).pending ≡ none_pending
+  pub few : HasRoom (view order k.tables)
   pub first : chosen (view order k.tables) ≡ Some t
 
--- what small changes are noted on: no move is in progress and nothing is told, the state is good, nothing pends, and
--- the thread is ready
+-- what small changes are noted on: no move is in progress and nothing is told, the state is good, what pends leaves room
+-- for more, and the thread is ready
 pub record CanNote {R : Type 0} (order : R → List ℕ) (k : KernelState R) (t : ℕ) : Type 0 where
   pub idle : IsIdle k
   pub untold : k.tables.report ≡ nothing_told
   pub good : IsGood (view order k.tables)
   pub listed : IsListed (view order k.tables) t
-  pub calm : (view order k.tables).pending ≡ none_pending
+  pub few : HasRoom (view order k.tables)
 
 -- small changes were noted, if any, and nothing else: together they make so much of a move, each can be made in
 -- its turn, none is made yet, and they are 512 at most
@@ -50,12 +55,12 @@ abbrev pub NotesMore : {R : Type 0} → (R → List ℕ) → KernelState R → K
 NotesMore order k q change = (first : KernelState _) (g : Outcome) → HasNoted order first k g → Can change g → HasNotedSome order first q (change_by change g)
 
 -- a move can begin of the small changes that were noted: there are some, each can be made in its turn, and the state
--- is steady when all are made
+-- is good when all are made
 pub record CanStart {R : Type 0} (order : R → List ℕ) (k : KernelState R) : Type 0 where
   pub idle : k.main ≡ None
   pub some : is_nil (remaining k.rest) ≡ false
   pub can : AllCan (outcome order k.tables) (remaining k.rest)
-  pub steady : IsSteady (owed (outcome order k.tables) (remaining k.rest)).state
+  pub good : IsGood (owed (outcome order k.tables) (remaining k.rest)).state
 
 -- a move of one small change at least and 512 at most was begun and nothing else: what it owes the machine, with its
 -- thread and its main line, is one change of the definitions, each of its small changes can be made in its turn, and

@@ -1,18 +1,22 @@
 -- The small changes that moves consist of, by topics, and when each may be made.
-use Rattle.std.specs.Prelude.{ℕ, ◌+◌, ◌≡◌, ◌<◌, Bool, true, false, if◌then◌else◌, List, [], ◌∷◌, Option, Some, None, IsSome, IsNone, IsTrue, length}
+use Rattle.std.specs.Prelude.{ℕ, ◌+◌, ◌≡◌, ◌<◌, ◌^◌, Bool, true, false, if◌then◌else◌, List, [], ◌∷◌, Option, Some, None, IsSome, IsNone, IsTrue, length, slice_index, slice_set}
 use Rattle.std.specs.Option.{ForSome}
 use Rattle.thread_base.specs.Holders.{is_held_by, is_free}
 use Rattle.thread_base.specs.Objects.{free_mutex, new_condition, holder_in, waiters_in, cond_mutex, cond_waiters, with_holder, with_waiters, appended, entered, without_waiter}
 use Rattle.thread_base.specs.Orders.{is_in, without}
 use Rattle.rv_exec.specs.Window.{is_inside}
-use Rattle.posix_model.specs.State.{State, Thread, Mutex, Condition, Normal, Ready, no_thread, none_pending, no_keys, first_cancellation, is_ready, is_live}
-use Rattle.posix_model.specs.Changes.{Outcome, set_thread, with_reply, append, to_end, await, answer}
+use Rattle.posix_model.specs.State.{State, Thread, Registers, Mutex, Condition, Normal, Ready, no_thread, no_keys, first_cancellation, is_ready, is_live}
+use Rattle.posix_model.specs.Changes.{Outcome, set_thread, with_reply, append, to_end, await, answer, aligned}
 use Rattle.posix_model.specs.Threads.{exists, free_number, first_registers}
 use Rattle.posix_model.specs.Mutexes.{set_mutex, retake}
 use Rattle.posix_model.specs.Conditions.{set_condition}
 use Rattle.posix_model.specs.Leaving.{exit_with, remains, ended}
-use Rattle.posix_model.specs.Deliveries.{set_pending, killed_by}
-use Rattle.kernel_state.specs.View.{one_pending}
+use Rattle.posix_model.specs.Deliveries.{set_pending, pend, killed_by, in_handler, handler_return, most_frames}
+use Rattle.posix_model.specs.Arrivals.{dropped}
+use Rattle.posix_model.specs.SignalCalls.{with_action}
+use Rattle.posix_model.specs.Weights.{pending_in_all}
+use Rattle.thread_signals.specs.Counts.{place_of}
+use Rattle.kernel_state.specs.Records.{left}
 use Rattle.kernel_state.specs.declared.change.Beginning.{Beginning}
 use Rattle.kernel_state.specs.declared.change.Change.{Change}
 use Rattle.kernel_state.specs.declared.change.Change.TheVariants.{Thread as OfThread, Mutex as OfMutex, Condition as OfCondition, Signal as OfSignal, Retake, Output, Over, Kill}
@@ -21,9 +25,9 @@ use Rattle.kernel_state.specs.declared.change.ConditionChange.TheVariants.{Make 
 use Rattle.kernel_state.specs.declared.change.MutexChange.{MutexChange}
 use Rattle.kernel_state.specs.declared.change.MutexChange.TheVariants.{Make as MakeMutex, Destroy as DestroyMutex, Hold, AddWaiter, DropWaiter}
 use Rattle.kernel_state.specs.declared.change.SignalChange.{SignalChange}
-use Rattle.kernel_state.specs.declared.change.SignalChange.TheVariants.{Pend, Take}
+use Rattle.kernel_state.specs.declared.change.SignalChange.TheVariants.{Pend, Take, Drop as DropAll, Lose, Act}
 use Rattle.kernel_state.specs.declared.change.ThreadChange.{ThreadChange}
-use Rattle.kernel_state.specs.declared.change.ThreadChange.TheVariants.{Reply, ToEnd, Create, StartExit, Await, Answer, Detach, Free, End}
+use Rattle.kernel_state.specs.declared.change.ThreadChange.TheVariants.{Reply, ToEnd, Create, StartExit, Await, Answer, Resume, Block, Handle, GoBack, Detach, Free, End}
 
 -- a new thread
 abbrev pub begun_thread : Beginning → Thread
@@ -32,13 +36,21 @@ begun_thread b = record {
   base = b.base;
   policy = b.policy;
   used = 0;
-  mask = 0;
+  mask = b.mask;
   frames = [];
   cleanups = [];
   cancellation = first_cancellation;
   detached = b.detached;
   phase = Normal;
   standing = Ready;
+}
+
+-- the registers of a thread that enters the handler of a signal at an address (System V ABI; the address to which it returns
+-- is this project's own)
+abbrev pub handler_registers : Registers → ℕ → ℕ → Registers
+handler_registers r signal at = record {
+  pc = at;
+  x = slice_set (slice_set (slice_set (slice_set r.x 10 signal) 11 0) 1 handler_return) 2 (aligned (slice_index r.x 2));
 }
 
 -- what is left of a thread that ended
@@ -53,6 +65,10 @@ thread_change_by (Create beginning) t g = record g { state = append g.state t (b
 thread_change_by (StartExit value) t g = record g { state = exit_with g.state t value }
 thread_change_by (Await wait) t g = record g { state = await g.state t wait }
 thread_change_by (Answer error value) t g = answer g t error value
+thread_change_by Resume t g = record g { state = append g.state t (g.state.threads t) }
+thread_change_by (Block mask) t g = record g { state = set_thread g.state t (record (g.state.threads t) { mask = mask }) }
+thread_change_by (Handle signal at mask) t g = record g { state = set_thread g.state t (in_handler (g.state.threads t) signal at mask) }
+thread_change_by GoBack t g = record g { state = set_thread g.state t (left (g.state.threads t)) }
 thread_change_by Detach t g = record g { state = set_thread g.state t (record (g.state.threads t) { detached = true }) }
 thread_change_by Free t g = record g { state = set_thread g.state t no_thread }
 thread_change_by (End value joined) t g = ended g t (remains_of (g.state.threads t) value joined) (g.state.pending t) value
@@ -72,17 +88,20 @@ condition_change_by DestroyCondition condition = None
 condition_change_by (Enter t m) condition = entered t m condition
 condition_change_by (Leave t) condition = without_waiter t condition
 
--- how many of a signal pend on a thread after a change (POSIX.1 signals)
-abbrev pub signal_change_by : SignalChange → ℕ → ℕ
-signal_change_by Pend count = count + 1
-signal_change_by Take count = 0
+-- what a change of what pends of a signal, or of what it does, makes of the machine and of what is told (POSIX.1 signals)
+abbrev pub signal_change_by : SignalChange → ℕ → Outcome → Outcome
+signal_change_by (Pend place count) signal g = record g { state = pend g.state (place_of place) signal count }
+signal_change_by (Take place) signal g = record g { state = set_pending g.state (place_of place) signal 0 }
+signal_change_by (DropAll place) signal g = dropped (record g { state = set_pending g.state (place_of place) signal 0 }) signal (g.state.pending (place_of place) signal)
+signal_change_by (Lose count) signal g = dropped g signal count
+signal_change_by (Act action) signal g = with_action g signal action
 
 -- what a small change makes of the machine and of what is told
 abbrev pub change_by : Change → Outcome → Outcome
 change_by (OfThread t change) g = thread_change_by change t g
 change_by (OfMutex m change) g = record g { state = set_mutex g.state m (mutex_change_by change (g.state.mutexes m)) }
 change_by (OfCondition c change) g = record g { state = set_condition g.state c (condition_change_by change (g.state.conditions c)) }
-change_by (OfSignal t signal change) g = record g { state = set_pending g.state t signal (signal_change_by change (g.state.pending t signal)) }
+change_by (OfSignal signal change) g = signal_change_by change signal g
 change_by (Retake t m count reply) g = retake g m t count reply
 change_by (Output descriptor buffer length) g = record g { report = record g.report { out_fd = descriptor; out_buf = buffer; out_len = length } }
 change_by (Over ending) g = record g { state = record g.state { over = Some ending } }
@@ -112,9 +131,13 @@ CanThread (Create beginning) t s = (free_number s ≡ Some t) × (is_in t s.read
 CanThread (StartExit value) t s = exists s t ≡ true
 CanThread (Await wait) t s = IsListed s t
 CanThread (Answer error value) t s = (is_in t s.ready ≡ false) × (is_live (s.threads t).standing ≡ true)
+CanThread Resume t s = (is_in t s.ready ≡ false) × (is_live (s.threads t).standing ≡ true)
+CanThread (Block mask) t s = exists s t ≡ true
+CanThread (Handle signal at mask) t s = (exists s t ≡ true) × (length (s.threads t).frames < most_frames)
+CanThread GoBack t s = exists s t ≡ true
 CanThread Detach t s = exists s t ≡ true
 CanThread Free t s = (exists s t ≡ true) × (is_in t s.ready ≡ false)
-CanThread (End value joined) t s = IsListed s t × (s.pending ≡ none_pending) × HasNoMutex s t × (s.keys ≡ no_keys)
+CanThread (End value joined) t s = IsListed s t × ((sig : ℕ) → s.pending t sig ≡ 0) × HasNoMutex s t × (s.keys ≡ no_keys)
 
 -- when a change of one mutex may be made
 abbrev pub CanMutex : MutexChange → ℕ → (ℕ → Option Mutex) → Type 0
@@ -131,10 +154,18 @@ CanCondition DestroyCondition c conditions = IsSome (conditions c) × (cond_wait
 CanCondition (Enter t m) c conditions = IsSome (conditions c) × WaitsForNoCondition conditions t × ForSome (cond_mutex (conditions c)) (λ k. k ≡ m)
 CanCondition (Leave t) c conditions = is_in t (cond_waiters (conditions c)) ≡ true
 
--- when a change of what pends may be made: one signal pends at most
-abbrev pub CanSignal : SignalChange → ℕ → ℕ → (ℕ → ℕ → ℕ) → Type 0
-CanSignal Pend t signal pending = pending ≡ none_pending
-CanSignal Take t signal pending = pending ≡ one_pending t signal
+-- nothing of a signal was told to be dropped
+abbrev pub HasDroppedNone : ℕ → Outcome → Type 0
+HasDroppedNone signal g = slice_index g.report.drops signal ≡ 0
+
+-- when a change of what pends of a signal, or of what it does, may be made: the sum of all counts fits, and a move drops a
+-- signal once
+abbrev pub CanSignal : SignalChange → ℕ → Outcome → Type 0
+CanSignal (Pend place count) signal g = pending_in_all g.state + count < 2 ^ 63
+CanSignal (Take place) signal g = Unit {0}
+CanSignal (DropAll place) signal g = HasDroppedNone signal g
+CanSignal (Lose count) signal g = HasDroppedNone signal g
+CanSignal (Act action) signal g = HasDroppedNone signal g
 
 -- a thread may take a mutex back: it has not ended and is not ready, the mutex is there, and where it is not free the
 -- thread waits for no mutex
@@ -149,7 +180,7 @@ abbrev pub Can : Change → Outcome → Type 0
 Can (OfThread t change) g = CanThread change t g.state
 Can (OfMutex m change) g = CanMutex change m g.state.mutexes
 Can (OfCondition c change) g = CanCondition change c g.state.conditions
-Can (OfSignal t signal change) g = CanSignal change t signal g.state.pending
+Can (OfSignal signal change) g = CanSignal change signal g
 Can (Retake t m count reply) g = CanRetake t m g.state
 Can (Output descriptor buffer size) g = IsTrue (is_inside (length g.state.memory) buffer size)
 Can (Over ending) g = Unit {0}

@@ -1,13 +1,12 @@
 -- The kernel as clauses see it, and what always holds of it.
 use Rattle.std.specs.Prelude.{ℕ, ◌≡◌, false, List, [], drop, Option, Some, None}
 use Rattle.thread_base.specs.Orders.{is_nil}
-use Rattle.posix_model.specs.State.{State}
 use Rattle.posix_model.specs.Changes.{Outcome}
 use Rattle.posix_model.specs.Good.{IsGood}
 use Rattle.posix_model.specs.Reports.{nothing_told}
 use Rattle.posix_model.specs.declared.Report.{Report}
 use Rattle.posix_model.specs.declared.Settings.{Settings}
-use Rattle.kernel_state.specs.View.{view, outcome, AreCurrent, IsPrompt}
+use Rattle.kernel_state.specs.View.{view, outcome, AreCurrent}
 use Rattle.kernel_state.specs.Changing.{owed, AllCan}
 use Rattle.kernel_state.specs.declared.change.Change.{Change}
 use Rattle.kernel_state.specs.declared.kernel.MainLine.{MainLine}
@@ -49,18 +48,13 @@ with_main main g = record g { report = told main g.report }
 abbrev pub owed_by : {R : Type 0} → (R → List ℕ) → KernelState R → Outcome
 owed_by order k = with_main k.main (owed (outcome order k.tables) (remaining k.rest))
 
--- a state between two moves: it is good, and a signal pends on ready threads alone
-pub record IsSteady (s : State) : Type 0 where
-  pub good : IsGood s
-  pub prompt : IsPrompt s
-
--- while no move is in progress the state is steady and nothing is told; while one is, some of its small changes are
--- left, each of them can be made in its turn, and the state is steady when all are made
+-- while no move is in progress the state is good and nothing is told; while one is, some of its small changes are
+-- left, each of them can be made in its turn, and the state is good when all are made
 abbrev pub IsInPhase : {R : Type 0} → (R → List ℕ) → KernelState R → Option MainLine → Type 0
-IsInPhase order k None = IsSteady (view order k.tables) × (k.tables.report ≡ nothing_told)
+IsInPhase order k None = IsGood (view order k.tables) × (k.tables.report ≡ nothing_told)
 IsInPhase order k (Some main) =
     (is_nil (remaining k.rest) ≡ false) × AllCan (outcome order k.tables) (remaining k.rest)
-    × IsSteady (owed (outcome order k.tables) (remaining k.rest)).state
+    × IsGood (owed (outcome order k.tables) (remaining k.rest)).state
 
 -- what always holds of a kernel: the ready list keeps the effective priorities, and the phase that it is in
 pub record IsSoundKernel {R : Type 0} (order : R → List ℕ) (prios : R → ℕ → ℕ) (k : KernelState R) : Type 0 where

@@ -1,3 +1,4 @@
+pub mod Records
 pub mod View
 pub mod Changing
 pub mod Kernels

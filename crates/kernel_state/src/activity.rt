@@ -1,6 +1,6 @@
 ghost use Rattle.std.specs.Prelude.{◌≡◌};
 ghost use Rattle.thread_base.specs.Maps.{put};
-ghost use Rattle.kernel_state.specs.View.{activities_of, no_activity};
+ghost use Rattle.kernel_state.specs.Records.{activities_of, no_activity};
 
 use posix_model::Wait;
 use thread_base::Tid;
@@ -24,7 +24,7 @@ pub struct Activities {
     activities: [Activity; 64],
 }
 
-#[tactic(auto, unfolding(crate::specs::View::activities_of), using(thread_base::proofs::MapLemmas::numbered_set, thread_base::proofs::MapLemmas::numbered_get, thread_base::proofs::MapLemmas::numbered_blank))]
+#[tactic(auto, unfolding(crate::specs::Records::activities_of), using(thread_base::proofs::MapLemmas::numbered_set, thread_base::proofs::MapLemmas::numbered_get, thread_base::proofs::MapLemmas::numbered_blank))]
 impl Activities {
     /// No thread waits or is in its exit.
     pub fn new() -> Activities

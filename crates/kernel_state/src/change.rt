@@ -1,14 +1,15 @@
 ghost use Rattle.std.specs.Prelude.{◌≡◌};
 
 use posix_model::{Ending, RetakeReply, Wait};
-use thread_base::{Holder, Kind, Policy, Prio, Protocol, Sig, Tid};
+use thread_base::{Action, Holder, Kind, Policy, Prio, Protocol, Sig, SigSet, Tid};
 
-/// What a new thread begins with: its priority and policy, whether it is detached, its routine with an
-/// argument, and its stack.
+/// What a new thread begins with: its priority and policy, the signals that it blocks, whether it is detached, its
+/// routine with an argument, and its stack.
 #[derive(Clone, Copy, Debug)]
 pub struct Beginning {
     pub base: Prio,
     pub policy: Policy,
+    pub mask: SigSet,
     pub detached: bool,
     pub routine: u32,
     pub argument: u32,
@@ -30,6 +31,14 @@ pub enum ThreadChange {
     Await { wait: Wait },
     /// A waiting thread is answered, and becomes ready.
     Answer { error: u32, value: u32 },
+    /// A waiting thread becomes ready without an answer, its pc at its call, which it makes again.
+    Resume,
+    /// A thread blocks the signals of another mask.
+    Block { mask: SigSet },
+    /// A thread enters the handler of a signal at an address, during which the signals of a mask are blocked too.
+    Handle { signal: Sig, at: u32, mask: SigSet },
+    /// A thread goes back to its last frame, where it has one.
+    GoBack,
     /// A thread is detached.
     Detach,
     /// The number of a thread that has ended is free.
@@ -66,17 +75,23 @@ pub enum ConditionChange {
     Leave { thread: Tid },
 }
 
-/// A change of how many of a signal pend on a thread.
+/// A change of how many of a signal pend on a thread, or on the process under None, or of what the signal does.
 #[derive(Clone, Copy, Debug)]
 pub enum SignalChange {
-    /// One more pends.
-    Pend,
-    /// None pends: the signal is taken with its whole count.
-    Take,
+    /// So many more pend.
+    Pend { place: Option<Tid>, count: u64 },
+    /// None pends there: the signal is taken with its whole count.
+    Take { place: Option<Tid> },
+    /// None pends there: what pended is dropped.
+    Drop { place: Option<Tid> },
+    /// So many that came are dropped.
+    Lose { count: u64 },
+    /// The signal has another action; where that ignores it, all that pends of it is dropped.
+    Act { action: Action },
 }
 
 /// One small change of the machine, with what it tells. It writes the record of one thread, one object (a mutex, a
-/// condition, what pends of a signal, the ending) and one place of one list at most.
+/// condition, what pends of a signal with its action, the ending) and one place of one list at most.
 #[derive(Clone, Copy, Debug)]
 pub enum Change {
     Thread {
@@ -92,7 +107,6 @@ pub enum Change {
         change: ConditionChange,
     },
     Signal {
-        thread: Tid,
         signal: Sig,
         change: SignalChange,
     },

@@ -4,16 +4,18 @@ ghost use Rattle.thread_base.specs.Objects.{cond_mutex, cond_waiters};
 ghost use Rattle.thread_base.specs.Orders.{is_in};
 ghost use Rattle.thread_base.specs.Priority.{first_greatest};
 ghost use Rattle.posix_model.specs.Good.{IsGood};
-ghost use Rattle.posix_model.specs.State.{wait_of, count_due};
+ghost use Rattle.posix_model.specs.State.{count_due};
 ghost use Rattle.posix_model.specs.Mutexes.{reply_due};
 ghost use Rattle.posix_model.specs.Conditions.{insert as insert_of, in_order, is_used};
 ghost use Rattle.posix_model.specs.Scheduling.{eff};
 ghost use Rattle.cond_table.specs.ConditionMap.{conditions as condition_map};
-ghost use Rattle.kernel_state.specs.View.{view, outcome, thread_in, StayCurrent};
+ghost use Rattle.kernel_state.specs.Records.{standing_in};
+ghost use Rattle.kernel_state.specs.View.{view, outcome, StayCurrent};
 ghost use Rattle.kernel_state.specs.Changing.{change_by, condition_change_by, CanCondition};
 
 use crate::change::{Change, ConditionChange};
-use crate::tables::{Tables, ThreadRecord};
+use crate::records::ThreadRecord;
+use crate::tables::Tables;
 use arrayvec::ArrayVec;
 use cond_table::Conds;
 use posix_model::{RetakeReply, Wait};
@@ -21,19 +23,9 @@ use ready_queues::Ready;
 use thread_base::Tid;
 
 impl ThreadRecord {
-    /// The wait of the thread; None exactly where it does not wait.
-    pub fn wait(self) -> Option<Wait>
-        ensures { result ≡ wait_of (thread_in self).standing }
-    {
-        match self.row.ended {
-            Some(_) => None,
-            None => self.activity.wait,
-        }
-    }
-
     /// How often the thread has the mutex that its wait gives it; 1 where it waits for none.
     pub fn count_due(self) -> u32
-        ensures { result ≡ count_due (thread_in self).standing }
+        ensures { result ≡ count_due (standing_in self) }
     {
         match self.wait() {
             Some(Wait::Cond { count, .. }) => count,
@@ -44,7 +36,7 @@ impl ThreadRecord {
 
     /// What the thread is answered when it has the mutex for which it waits; 0 where it waits for none.
     pub fn reply_due(self) -> RetakeReply
-        ensures { result ≡ reply_due (thread_in self).standing }
+        ensures { result ≡ reply_due (standing_in self) }
     {
         match self.wait() {
             Some(Wait::Reacquire { reply, .. }) => reply,

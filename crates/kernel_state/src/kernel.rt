@@ -3,22 +3,21 @@ ghost use Rattle.thread_base.specs.Orders.{is_nil};
 ghost use Rattle.posix_model.specs.Reports.{nothing_told};
 ghost use Rattle.posix_model.specs.Scheduling.{chosen};
 ghost use Rattle.posix_model.specs.Start.{start_state};
-ghost use Rattle.posix_model.specs.Deliveries.{next_delivery, deliver};
 ghost use Rattle.posix_model.specs.Changes.{begun};
 ghost use Rattle.posix_model.specs.Calls.{refused};
-ghost use Rattle.kernel_state.specs.View.{view, outcome, pending_of, StayCurrent};
+ghost use Rattle.kernel_state.specs.View.{view, outcome, StayCurrent};
 ghost use Rattle.kernel_state.specs.Changing.{Can, change_by, AllCan};
-ghost use Rattle.kernel_state.specs.Executing.{HasExecuted, delivery_by};
+ghost use Rattle.kernel_state.specs.Executing.{HasExecuted};
 ghost use Rattle.kernel_state.specs.Kernels.{IsEmpty, IsIdle, IsSoundKernel, remaining, told, owed_by};
-ghost use Rattle.kernel_state.specs.Begun.{CanBegin, CanNote, CanStart, HasNotedSome, IsBegun, NotesMore, arguments_of};
+ghost use Rattle.kernel_state.specs.Begun.{CanBegin, CanNote, CanStart, HasNotedSome, NotesMore, arguments_of};
 ghost use Rattle.kernel_state.specs.Moves.{InProgress, HasMade, IsStep};
 ghost use Rattle.kernel_state.specs.Small.{IsSmall};
 
-use crate::change::{Change, SignalChange};
+use crate::change::Change;
 use crate::rest::Rest;
-use crate::tables::{Fault, Tables};
+use crate::tables::Tables;
 use elf_image::EntryPoint;
-use posix_model::{Arguments, Ending, Head, Reply, Report, Settings};
+use posix_model::{Arguments, Head, Reply, Report, Settings};
 use ready_queues::Ready;
 use rv_exec::{Event, Memory};
 use std::alloc::Global;
@@ -101,7 +100,7 @@ impl<R: Ready + Drop> Kernel<R> {
     /// Puts the registers of a thread in place; the machine stays.
     pub fn place(&mut self, t: Tid)
         ensures view { view R.order self.new.tables ≡ view R.order self.old.tables }
-        ensures placed { self.new.tables.placed ≡ t }
+        ensures placed { self.new.tables.records.placed ≡ t }
         ensures others { self.new ≡ record self.old { tables = self.new.tables } }
     {
         self.tables.place(t);
@@ -112,9 +111,9 @@ impl<R: Ready + Drop> Kernel<R> {
     #[inline(always)]
     pub fn execute(&mut self) -> Event
         requires idle { self.old.main ≡ None }
-        requires chosen { chosen (view R.order self.old.tables) ≡ Some self.old.tables.placed }
-        ensures executed { HasExecuted (view R.order self.old.tables) self.old.tables.placed result (view R.order self.new.tables) }
-        ensures placed { self.new.tables.placed ≡ self.old.tables.placed }
+        requires chosen { chosen (view R.order self.old.tables) ≡ Some self.old.tables.records.placed }
+        ensures executed { HasExecuted (view R.order self.old.tables) self.old.tables.records.placed result (view R.order self.new.tables) }
+        ensures placed { self.new.tables.records.placed ≡ self.old.tables.records.placed }
         ensures others { self.new ≡ record self.old { tables = self.new.tables } }
     {
         self.tables.execute()
@@ -179,34 +178,6 @@ impl<R: Ready + Drop> Kernel<R> {
         ensures { self.new ≡ record self.old { main = Some (record { thread = t; head = head }) } }
     {
         self.main = Some(MainLine { thread: t, head });
-    }
-
-    /// Begins the delivery of a fault's signal that is next, whose default action ends the process.
-    pub fn begin_delivery(&mut self, fault: Fault)
-        requires idle { IsIdle self.old }
-        requires next { next_delivery (view R.order self.old.tables) ≡ delivery_by (Some fault) }
-        requires pending { (view R.order self.old.tables).pending ≡ pending_of (Some fault) }
-        ensures { IsBegun R.order self.old self.new (deliver (view R.order self.old.tables)) }
-    {
-        let _sound = self.tables();
-        let t = fault.thread;
-        let signal = fault.signal;
-        self.note_more(Change::Signal {
-            thread: t,
-            signal,
-            change: SignalChange::Take,
-        });
-        self.note_more(Change::Over {
-            ending: Ending::Killed(signal),
-        });
-        self.begin_move(
-            t,
-            Head::Deliver {
-                to: t.number(),
-                sig: signal,
-                count: 1,
-            },
-        );
     }
 
     /// Makes the next small change of the move in progress, and no other. Exit comes exactly where it was the last

@@ -6,7 +6,9 @@ mod change;
 mod conditions;
 mod kernel;
 mod mutexes;
+mod records;
 mod rest;
+mod signals;
 mod tables;
 #[cfg(test)]
 mod tests;
@@ -16,5 +18,6 @@ mod waking;
 pub use activity::{Activities, Activity};
 pub use change::{Beginning, Change, ConditionChange, MutexChange, SignalChange, ThreadChange};
 pub use kernel::{Kernel, MainLine, Stepped, arguments_from};
+pub use records::{Records, ThreadRecord};
 pub use rest::Rest;
-pub use tables::{Fault, Tables, ThreadRecord};
+pub use tables::Tables;

@@ -43,7 +43,7 @@ impl<R: Ready + Drop> Tables<R> {
         ensures { result ≡ eff (view R.order self.now) t }
     {
         let _in_range = t.number();
-        match self.threads.row(t) {
+        match self.records.row(t) {
             None => 0,
             Some(row) => row.base.number() as u8,
         }

@@ -1,4 +1,4 @@
-ghost use Rattle.std.specs.Prelude.{◌≡◌, ◌++◌, [], ◌∷◌, true, false, Some, None, IfSome, is_some, IfOk, length};
+ghost use Rattle.std.specs.Prelude.{◌≡◌, ◌<◌, ◌++◌, [], ◌∷◌, true, false, Some, None, IfSome, is_some, IfOk, length};
 ghost use Rattle.thread_base.specs.Orders.{is_in, without};
 ghost use Rattle.posix_model.specs.State.{no_thread, joins};
 ghost use Rattle.posix_model.specs.Good.{IsGood};
@@ -7,44 +7,26 @@ ghost use Rattle.posix_model.specs.Changes.{set_thread};
 ghost use Rattle.posix_model.specs.Reports.{nothing_told};
 ghost use Rattle.posix_model.specs.Scheduling.{own, chosen};
 ghost use Rattle.posix_model.specs.Start.{start_state, start_registers};
-ghost use Rattle.posix_model.specs.Trace.{left};
 ghost use Rattle.posix_model.specs.Threads.{exists, free_number, joiner, some_live};
-ghost use Rattle.thread_base.specs.Maps.{put};
-ghost use Rattle.posix_model.specs.Deliveries.{next_delivery};
-ghost use Rattle.kernel_state.specs.Executing.{HasExecuted, delivery_by};
-ghost use Rattle.kernel_state.specs.View.{view, thread_in, registers_of, context_of, contexts_of, with_ready, main_row, pending_of, IsPrompt, AreCurrent, StayCurrent};
+ghost use Rattle.kernel_state.specs.Executing.{HasExecuted};
+ghost use Rattle.kernel_state.specs.Records.{thread_in, standing_in, registers_of, entered, left};
+ghost use Rattle.kernel_state.specs.View.{view, with_ready, AreCurrent, StayCurrent};
 
-use crate::activity::{Activities, Activity};
+use crate::records::{Records, ThreadRecord};
 use cond_table::Conds;
-use context_frames::{Frames, Saved};
+use context_frames::FrameKind;
 use elf_image::EntryPoint;
 use mutex_table::Mutexes;
 use posix_model::{Ending, Report};
 use ready_queues::Ready;
-use rv_exec::{BASE, Event, Memory, Regs, START_RETURN, exec};
+use rv_exec::{BASE, Event, Memory, Regs, START_RETURN};
 use std::alloc::Global;
-use thread_base::{NoMemory, Policy, Prio, Sig, Tid};
-use thread_table::{Row, Threads};
-
-/// A fault that is not delivered yet: its thread and its signal.
-#[derive(Clone, Copy, Debug, PartialEq, Eq)]
-pub struct Fault {
-    pub thread: Tid,
-    pub signal: Sig,
-}
-
-/// All that the tables keep of a thread.
-#[derive(Clone, Copy, Debug)]
-pub struct ThreadRecord {
-    pub row: Row,
-    pub activity: Activity,
-    pub regs: Regs,
-}
+use thread_base::{NoMemory, Prio, SigSet, Tid};
 
 impl ThreadRecord {
     /// Whether the thread waits for the end of another.
     fn joins(self, t: Tid) -> bool
-        ensures { result ≡ joins t (thread_in self).standing }
+        ensures { result ≡ joins t (standing_in self) }
     {
         if self.row.ended.is_some() {
             return false;
@@ -60,16 +42,12 @@ impl ThreadRecord {
 /// that it shows.
 #[derive(Drop)]
 pub struct Tables<R: Ready + Drop> {
-    pub(crate) threads: Threads,
+    pub(crate) records: Records,
     pub(crate) ready: R,
     pub(crate) mutexes: Mutexes,
     pub(crate) conditions: Conds,
-    pub(crate) activities: Activities,
-    pub(crate) frames: Frames,
-    pub(crate) regs: Regs,
-    pub(crate) placed: Tid,
+    pub(crate) ticks: u64,
     pub(crate) memory: Memory,
-    pub(crate) fault: Option<Fault>,
     pub(crate) over: Option<Ending>,
     pub(crate) report: Report,
 }
@@ -88,25 +66,17 @@ impl<R: Ready + Drop> Tables<R> {
         ensures current { IfOk result (λ k. AreCurrent (R.prio k.ready) (view R.order k)) }
         ensures untold { IfOk result (λ k. k.report ≡ nothing_told) }
     {
-        let main = Tid::at(0);
-        let base = first_priority();
-        let frames = Frames::new(alloc)?;
+        let records = Records::new(alloc, first_regs(&memory, entry))?;
         let mutexes = Mutexes::new(alloc)?;
         let conditions = Conds::new(alloc)?;
-        let mut threads = Threads::new();
-        let _number = threads.make(first_row());
-        ready.append(main, base);
+        ready.append(Tid::at(0), first_priority());
         Ok(Tables {
-            threads,
+            records,
             ready,
             mutexes,
             conditions,
-            activities: Activities::new(),
-            frames,
-            regs: first_regs(&memory, entry),
-            placed: main,
+            ticks: 0,
             memory,
-            fault: None,
             over: None,
             report: Report::nothing(),
         })
@@ -120,41 +90,13 @@ impl<R: Ready + Drop> Tables<R> {
         self.ready.chosen()
     }
 
-    /// The context of a thread: the registers in place, or those that were saved.
-    fn context(&self, t: Tid) -> Regs
-        ensures { registers_of result ≡ contexts_of self.now t }
-    {
-        if t.number() == self.placed.number() {
-            return self.regs;
-        }
-        saved_regs(self.frames.saved(t))
-    }
-
-    /// Gives a thread another context; those of the others stay.
-    fn put_context(&mut self, t: Tid, regs: Regs)
-        ensures contexts { contexts_of self.new ≡ put (contexts_of self.old) t (registers_of regs) }
-        ensures rest { self.new ≡ record self.old { frames = self.new.frames; regs = self.new.regs } }
-    {
-        if t.number() == self.placed.number() {
-            self.regs = regs;
-        } else {
-            self.frames.save(t, Saved::User(regs));
-        }
-    }
-
     /// What the tables keep of a thread; None exactly where there is none.
+    #[tactic(auto, unfolding(crate::specs::View::view))]
     pub fn find(&self, t: Tid) -> Option<ThreadRecord>
-        ensures thread { IfSome result (λ k. thread_in k ≡ (view R.order self.now).threads t) }
+        ensures thread { IfSome result (λ k. thread_in k ((view R.order self.now).threads t).frames ≡ (view R.order self.now).threads t) }
         ensures there { is_some result ≡ exists (view R.order self.now) t }
     {
-        match self.threads.row(t) {
-            None => None,
-            Some(row) => Some(ThreadRecord {
-                row,
-                activity: self.activities.activity(t),
-                regs: self.context(t),
-            }),
-        }
+        self.records.find(t)
     }
 
     /// Whether there is a thread, which may have ended.
@@ -221,7 +163,7 @@ impl<R: Ready + Drop> Tables<R> {
     /// What the tables keep of a thread that is there.
     pub fn known(&self, t: Tid) -> ThreadRecord
         requires { exists (view R.order self.now) t ≡ true }
-        ensures { thread_in result ≡ (view R.order self.now).threads t }
+        ensures { thread_in result ((view R.order self.now).threads t).frames ≡ (view R.order self.now).threads t }
     {
         match self.find(t) {
             Some(known) => known,
@@ -239,52 +181,27 @@ impl<R: Ready + Drop> Tables<R> {
 
     /// The thread whose registers are in place.
     pub fn placed(&self) -> Tid
-        ensures { result ≡ self.now.placed }
+        ensures { result ≡ self.now.records.placed }
     {
-        self.placed
+        self.records.placed()
+    }
+
+    /// The ticks that have come.
+    #[tactic(auto, unfolding(crate::specs::View::view))]
+    pub fn ticks(&self) -> u64
+        ensures { result ≡ (view R.order self.now).now }
+    {
+        self.ticks
     }
 
     /// Puts the registers of a thread in place; those that were there are saved, and the machine stays.
     pub(crate) fn place(&mut self, t: Tid)
         ensures view { view R.order self.new ≡ view R.order self.old }
-        ensures placed { self.new.placed ≡ t }
+        ensures placed { self.new.records.placed ≡ t }
         ensures report { self.new.report ≡ self.old.report }
         ensures current { StayCurrent R.order R.prio self.old self.new }
     {
-        let regs = self.context(t);
-        self.frames.save(self.placed, Saved::User(self.regs));
-        self.regs = regs;
-        self.placed = t;
-    }
-
-    /// The fault whose signal is delivered next; None exactly where no delivery is next.
-    pub fn fault(&self) -> Option<Fault>
-        requires { IsPrompt (view R.order self.now) }
-        ensures next { next_delivery (view R.order self.now) ≡ delivery_by result }
-        ensures pending { (view R.order self.now).pending ≡ pending_of result }
-    {
-        match self.fault {
-            None => None,
-            Some(fault) => {
-                let _in_range = (fault.thread.number(), fault.signal.number());
-                Some(fault)
-            }
-        }
-    }
-
-    /// How many of each signal still pend, over all threads, by the signal's number.
-    pub fn left(&self) -> [u64; 32]
-        ensures { result ≡ left (view R.order self.now) }
-    {
-        let mut left = [0; 32];
-        match self.fault {
-            None => {}
-            Some(fault) => {
-                let _in_range = fault.thread.number();
-                left[fault.signal.number() as usize] = 1;
-            }
-        }
-        left
+        self.records.place(t);
     }
 
     /// How the process ended, where it is over.
@@ -298,37 +215,65 @@ impl<R: Ready + Drop> Tables<R> {
     /// Makes one instruction of the thread whose registers are in place, up to what its event asks for.
     #[inline(always)]
     pub(crate) fn execute(&mut self) -> Event
-        requires { exists (view R.order self.old) self.old.placed ≡ true }
-        ensures executed { HasExecuted (view R.order self.old) self.old.placed result (view R.order self.new) }
-        ensures placed { self.new.placed ≡ self.old.placed }
+        requires { exists (view R.order self.old) self.old.records.placed ≡ true }
+        ensures executed { HasExecuted (view R.order self.old) self.old.records.placed result (view R.order self.new) }
+        ensures placed { self.new.records.placed ≡ self.old.records.placed }
         ensures report { self.new.report ≡ self.old.report }
         ensures current { StayCurrent R.order R.prio self.old self.new }
     {
-        exec(&mut self.regs, &mut self.memory)
+        self.records.execute(&mut self.memory)
     }
 
     /// Changes what the tables keep of a thread that is there; the others stay.
     pub(crate) fn put_record(&mut self, t: Tid, known: ThreadRecord)
         requires { exists (view R.order self.old) t ≡ true }
-        ensures view { view R.order self.new ≡ set_thread (view R.order self.old) t (thread_in known) }
+        ensures view { view R.order self.new ≡ set_thread (view R.order self.old) t (thread_in known ((view R.order self.old).threads t).frames) }
         ensures report { self.new.report ≡ self.old.report }
         ensures current { known.row.base ≡ own (view R.order self.old) t → StayCurrent R.order R.prio self.old self.new }
     {
-        self.threads.put(t, known.row);
-        self.activities.put(t, known.activity);
-        self.put_context(t, known.regs);
+        self.records.put(t, known);
+    }
+
+    /// Pushes a frame with the registers and the mask of a thread that is there and has fewer than 32 frames, and gives it
+    /// others.
+    pub(crate) fn enter(&mut self, t: Tid, kind: FrameKind, regs: Regs, mask: SigSet)
+        requires there { exists (view R.order self.old) t ≡ true }
+        requires room { length ((view R.order self.old).threads t).frames < 32 }
+        ensures view { view R.order self.new ≡ set_thread (view R.order self.old) t (entered ((view R.order self.old).threads t) kind (registers_of regs) mask) }
+        ensures report { self.new.report ≡ self.old.report }
+        ensures current { StayCurrent R.order R.prio self.old self.new }
+    {
+        self.records.enter(t, kind, regs, mask);
+    }
+
+    /// Takes the last frame of a thread off, which goes back to it.
+    pub(crate) fn leave_frame(&mut self, t: Tid)
+        requires { exists (view R.order self.old) t ≡ true }
+        ensures view { view R.order self.new ≡ set_thread (view R.order self.old) t (left ((view R.order self.old).threads t)) }
+        ensures report { self.new.report ≡ self.old.report }
+        ensures current { StayCurrent R.order R.prio self.old self.new }
+    {
+        self.records.leave(t);
+    }
+
+    /// Changes what the tables keep of a thread that is there, and drops its frames; the others stay.
+    pub(crate) fn put_bare(&mut self, t: Tid, known: ThreadRecord)
+        requires { exists (view R.order self.old) t ≡ true }
+        ensures view { view R.order self.new ≡ set_thread (view R.order self.old) t (thread_in known []) }
+        ensures report { self.new.report ≡ self.old.report }
+        ensures current { known.row.base ≡ own (view R.order self.old) t → StayCurrent R.order R.prio self.old self.new }
+    {
+        self.records.put_bare(t, known);
     }
 
     /// Keeps a new thread, of the least number that is free.
     pub(crate) fn add_record(&mut self, t: Tid, known: ThreadRecord)
         requires { free_number (view R.order self.old) ≡ Some t }
-        ensures view { view R.order self.new ≡ set_thread (view R.order self.old) t (thread_in known) }
+        ensures view { view R.order self.new ≡ set_thread (view R.order self.old) t (thread_in known []) }
         ensures report { self.new.report ≡ self.old.report }
         ensures current { is_in t (view R.order self.old).ready ≡ false → StayCurrent R.order R.prio self.old self.new }
     {
-        let _number = self.threads.make(known.row);
-        self.activities.put(t, known.activity);
-        self.put_context(t, known.regs);
+        self.records.add(t, known);
     }
 
     /// Keeps nothing more of a thread that is there: its number is free.
@@ -338,14 +283,14 @@ impl<R: Ready + Drop> Tables<R> {
         ensures report { self.new.report ≡ self.old.report }
         ensures current { is_in t (view R.order self.old).ready ≡ false → StayCurrent R.order R.prio self.old self.new }
     {
-        self.threads.free(t);
+        self.records.remove(t);
     }
 
     /// Whether some thread has not ended.
     pub fn some_live(&self) -> bool
         ensures { result ≡ some_live (view R.order self.now) }
     {
-        self.threads.live() != 0
+        self.records.live() != 0
     }
 
     /// Puts a ready thread after the others.
@@ -384,36 +329,11 @@ impl<R: Ready + Drop> Tables<R> {
     }
 }
 
-/// The registers of a context.
-fn saved_regs(saved: Saved) -> Regs
-    ensures { registers_of result ≡ context_of saved }
-{
-    match saved {
-        Saved::User(regs) => regs,
-        Saved::Tail(regs, _) => regs,
-        Saved::Fresh(regs) => regs,
-    }
-}
-
 /// The priority of thread 1.
 fn first_priority() -> Prio
     ensures { result ≡ 8 }
 {
     Prio::new(8).unwrap()
-}
-
-/// The row of thread 1: policy OTHER, and it can be joined.
-fn first_row() -> Row
-    ensures { result ≡ main_row }
-{
-    Row {
-        base: first_priority(),
-        policy: Policy::Other,
-        used: 0,
-        detached: false,
-        joiner: None,
-        ended: None,
-    }
 }
 
 /// The registers of thread 1 at the start.

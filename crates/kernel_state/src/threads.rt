@@ -1,20 +1,23 @@
-ghost use Rattle.std.specs.Prelude.{◌≡◌, ◌+◌, true, false, Some};
+ghost use Rattle.std.specs.Prelude.{◌≡◌, ◌+◌, ℕ, [], true, false, Some};
 ghost use Rattle.thread_base.specs.Orders.{is_in};
 ghost use Rattle.posix_model.specs.State.{Waits, none_pending, is_live};
 ghost use Rattle.posix_model.specs.Scheduling.{own};
 ghost use Rattle.posix_model.specs.Threads.{exists};
 ghost use Rattle.posix_model.specs.Changes.{answered as answered_of, set_thread, append, with_reply, with_answer, in_exit, canceled, go_on as gone_on};
 ghost use Rattle.posix_model.specs.Leaving.{over_with_last, without_thread, plus_each, with_end};
-ghost use Rattle.kernel_state.specs.View.{view, outcome, thread_in, registers_of, StayCurrent};
-ghost use Rattle.kernel_state.specs.Changing.{begun_thread, remains_of, change_by, thread_change_by, Can, CanThread, CanSignal, IsListed, HasNoMutex};
+ghost use Rattle.kernel_state.specs.Records.{thread_in, registers_of};
+ghost use Rattle.kernel_state.specs.View.{view, outcome, StayCurrent};
+ghost use Rattle.kernel_state.specs.Changing.{begun_thread, remains_of, handler_registers, change_by, thread_change_by, Can, CanThread, IsListed, HasNoMutex};
 
 use crate::activity::Activity;
-use crate::change::{Beginning, Change, SignalChange, ThreadChange};
-use crate::tables::{Fault, Tables, ThreadRecord};
+use crate::change::{Beginning, Change, ThreadChange};
+use crate::records::ThreadRecord;
+use crate::tables::Tables;
+use context_frames::FrameKind;
 use posix_model::{Ending, Report, RetakeReply, Wait};
 use ready_queues::Ready;
-use rv_exec::{CLEANUP_RETURN, Regs, START_RETURN};
-use thread_base::{Prio, Sig, Tid};
+use rv_exec::{CLEANUP_RETURN, HANDLER_RETURN, Regs, START_RETURN};
+use thread_base::{Prio, Sig, SigSet, Tid};
 use thread_table::Row;
 
 /// The value with which a cancelled thread exits (POSIX.1 PTHREAD_CANCELED).
@@ -54,7 +57,7 @@ impl<R: Ready + Drop> Tables<R> {
         self.put_last(t);
     }
 
-    /// Starts the exit of a thread, or gives it a new value.
+    /// Starts the exit of a thread, or gives it a new value; its frames are dropped.
     #[tactic(auto, unfolding(crate::specs::View::outcome))]
     fn start_exit(&mut self, t: Tid, value: u32)
         requires { CanThread (ThreadChange.StartExit value) t (view R.order self.old) }
@@ -64,7 +67,7 @@ impl<R: Ready + Drop> Tables<R> {
         let mut known = self.known(t);
         known.activity.leaving = Some(value);
         known.regs.pc = CLEANUP_RETURN;
-        self.put_record(t, known);
+        self.put_bare(t, known);
     }
 
     /// Lets a ready thread wait.
@@ -113,7 +116,7 @@ impl<R: Ready + Drop> Tables<R> {
             leaving: Some(CANCELED),
         };
         known.regs.pc = CLEANUP_RETURN;
-        self.put_record(t, known);
+        self.put_bare(t, known);
         self.append(t, base);
     }
 
@@ -164,6 +167,56 @@ impl<R: Ready + Drop> Tables<R> {
         let base = beginning.base;
         self.add_record(t, first_record(beginning));
         self.append(t, base);
+    }
+
+    /// Makes a waiting thread ready without an answer: it makes its call again.
+    #[tactic(auto, unfolding(crate::specs::View::outcome))]
+    fn resume(&mut self, t: Tid)
+        requires { CanThread ThreadChange.Resume t (view R.order self.old) }
+        ensures outcome { outcome R.order self.new ≡ thread_change_by ThreadChange.Resume t (outcome R.order self.old) }
+        ensures current { StayCurrent R.order R.prio self.old self.new }
+    {
+        let base = self.base(t);
+        let mut known = self.known(t);
+        known.row.used = 0;
+        known.activity.wait = None;
+        self.put_record(t, known);
+        self.append(t, base);
+    }
+
+    /// Lets a thread block the signals of another mask.
+    #[tactic(auto, unfolding(crate::specs::View::outcome))]
+    fn block(&mut self, t: Tid, mask: SigSet)
+        requires { CanThread (ThreadChange.Block mask) t (view R.order self.old) }
+        ensures outcome { outcome R.order self.new ≡ thread_change_by (ThreadChange.Block mask) t (outcome R.order self.old) }
+        ensures current { StayCurrent R.order R.prio self.old self.new }
+    {
+        let mut known = self.known(t);
+        known.mask = mask;
+        self.put_record(t, known);
+    }
+
+    /// Lets a thread enter the handler of a signal.
+    #[tactic(auto, unfolding(crate::specs::View::outcome))]
+    fn handle(&mut self, t: Tid, signal: Sig, at: u32, mask: SigSet)
+        requires { CanThread (ThreadChange.Handle signal at mask) t (view R.order self.old) }
+        ensures outcome { outcome R.order self.new ≡ thread_change_by (ThreadChange.Handle signal at mask) t (outcome R.order self.old) }
+        ensures current { StayCurrent R.order R.prio self.old self.new }
+    {
+        let known = self.known(t);
+        let regs = at_handler(known.regs, signal, at);
+        let blocked = known.mask.union(mask.with(signal));
+        self.enter(t, FrameKind::Handler, regs, blocked);
+    }
+
+    /// Lets a thread go back to its last frame.
+    #[tactic(auto, unfolding(crate::specs::View::outcome))]
+    fn go_back(&mut self, t: Tid)
+        requires { CanThread ThreadChange.GoBack t (view R.order self.old) }
+        ensures outcome { outcome R.order self.new ≡ thread_change_by ThreadChange.GoBack t (outcome R.order self.old) }
+        ensures current { StayCurrent R.order R.prio self.old self.new }
+    {
+        self.leave_frame(t);
     }
 
     /// Detaches a thread.
@@ -219,7 +272,7 @@ impl<R: Ready + Drop> Tables<R> {
     /// Takes a thread that ends out of the ready list, and ends the process with the last one.
     fn leave_list(&mut self, t: Tid, value: u32, joined: bool)
         requires listed { IsListed (view R.order self.old) t }
-        requires calm { (view R.order self.old).pending ≡ none_pending }
+        requires calm { (sig : ℕ) → (view R.order self.old).pending t sig ≡ 0 }
         requires unheld { HasNoMutex (view R.order self.old) t }
         ensures view { view R.order self.new ≡ over_with_last (without_thread (view R.order self.old) t (remains_of ((view R.order self.old).threads t) value joined)) }
         ensures report { self.new.report ≡ self.old.report }
@@ -230,7 +283,7 @@ impl<R: Ready + Drop> Tables<R> {
         self.end_with_last();
     }
 
-    /// Ends a thread with a value, which its joiner has got, where it was joined; nothing pends that would be dropped.
+    /// Ends a thread with a value, which its joiner has got, where it was joined; nothing pends on it any more.
     #[tactic(auto, unfolding(crate::specs::View::outcome, crate::specs::View::view))]
     fn end(&mut self, t: Tid, value: u32, joined: bool)
         requires { CanThread (ThreadChange.End value joined) t (view R.order self.old) }
@@ -254,41 +307,13 @@ impl<R: Ready + Drop> Tables<R> {
             ThreadChange::StartExit { value } => self.start_exit(t, value),
             ThreadChange::Await { wait } => self.await_on(t, wait),
             ThreadChange::Answer { error, value } => self.answer(t, error, value),
+            ThreadChange::Resume => self.resume(t),
+            ThreadChange::Block { mask } => self.block(t, mask),
+            ThreadChange::Handle { signal, at, mask } => self.handle(t, signal, at, mask),
+            ThreadChange::GoBack => self.go_back(t),
             ThreadChange::Detach => self.detach(t),
             ThreadChange::Free => self.free(t),
             ThreadChange::End { value, joined } => self.end(t, value, joined),
-        }
-    }
-
-    /// Lets a fault's signal pend on its thread.
-    #[tactic(auto, unfolding(crate::specs::View::outcome, crate::specs::View::view), using(crate::proofs::CurrentLemmas::alike))]
-    fn pend(&mut self, t: Tid, signal: Sig)
-        requires { CanSignal SignalChange.Pend t signal (view R.order self.old).pending }
-        ensures outcome { outcome R.order self.new ≡ change_by (Change.Signal t signal SignalChange.Pend) (outcome R.order self.old) }
-        ensures current { StayCurrent R.order R.prio self.old self.new }
-    {
-        self.fault = Some(Fault { thread: t, signal });
-    }
-
-    /// Takes a fault's signal, so that none pends.
-    #[tactic(auto, unfolding(crate::specs::View::outcome, crate::specs::View::view), using(crate::proofs::CurrentLemmas::alike))]
-    fn take(&mut self, t: Tid, signal: Sig)
-        requires { CanSignal SignalChange.Take t signal (view R.order self.old).pending }
-        ensures outcome { outcome R.order self.new ≡ change_by (Change.Signal t signal SignalChange.Take) (outcome R.order self.old) }
-        ensures current { StayCurrent R.order R.prio self.old self.new }
-    {
-        self.fault = None;
-    }
-
-    /// Makes a change of what pends on a thread.
-    fn change_signal(&mut self, t: Tid, signal: Sig, change: SignalChange)
-        requires { CanSignal change t signal (view R.order self.old).pending }
-        ensures outcome { outcome R.order self.new ≡ change_by (Change.Signal t signal change) (outcome R.order self.old) }
-        ensures current { StayCurrent R.order R.prio self.old self.new }
-    {
-        match change {
-            SignalChange::Pend => self.pend(t, signal),
-            SignalChange::Take => self.take(t, signal),
         }
     }
 
@@ -335,11 +360,7 @@ impl<R: Ready + Drop> Tables<R> {
             Change::Thread { thread, change } => self.change_thread(thread, change),
             Change::Mutex { mutex, change } => self.change_mutex(mutex, change),
             Change::Condition { cond, change } => self.change_condition(cond, change),
-            Change::Signal {
-                thread,
-                signal,
-                change,
-            } => self.change_signal(thread, signal, change),
+            Change::Signal { signal, change } => self.change_signal(signal, change),
             Change::Retake {
                 thread,
                 mutex,
@@ -383,7 +404,7 @@ fn tell_end(report: &mut Report, value: u32)
 
 /// What the tables keep of a new thread.
 fn first_record(beginning: Beginning) -> ThreadRecord
-    ensures { thread_in result ≡ begun_thread beginning }
+    ensures { thread_in result [] ≡ begun_thread beginning }
 {
     let mut x = [0u32; 32];
     x[1] = START_RETURN;
@@ -402,6 +423,7 @@ fn first_record(beginning: Beginning) -> ThreadRecord
             wait: None,
             leaving: None,
         },
+        mask: beginning.mask,
         regs: Regs {
             pc: beginning.routine,
             x,
@@ -425,5 +447,17 @@ fn answered(mut regs: Regs, error: u32, value: u32) -> Regs
         regs.x[10] = error;
         regs.x[11] = value;
     }
+    regs
+}
+
+/// The registers of a thread at the handler of a signal: its number in a0 and 0 in a1, and sp without its low four bits.
+fn at_handler(mut regs: Regs, signal: Sig, at: u32) -> Regs
+    ensures { registers_of result ≡ handler_registers (registers_of regs) signal at }
+{
+    regs.pc = at;
+    regs.x[10] = signal.number();
+    regs.x[11] = 0;
+    regs.x[1] = HANDLER_RETURN;
+    regs.x[2] &= !15;
     regs
 }

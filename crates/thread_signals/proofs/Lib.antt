@@ -1,4 +1,5 @@
 mod AnswerLemmas
+pub mod CalmLemmas
 mod DeliveryLemmas
 mod SoundLemmas
 mod SumLemmas

@@ -31,7 +31,7 @@ first_total = refl
 none_pends : (t sig : ℕ) → nat_lt 0 (counts_of (replicate 65 zeros) t sig) ≡ false
 none_pends t sig = ap (λ (counts : ℕ → ℕ → ℕ). nat_lt 0 (counts t sig)) counts_blank
 
-pub first_sound : (mask : ℕ) → AreSound (first_table mask) (replicate 65 0)
+pub first_sound : (mask : ℕ) → AreSound (first_table mask) (replicate 65 0) 0
 first_sound mask = record {
   masks = refl;
   waits = refl;
@@ -42,6 +42,7 @@ first_sound mask = record {
   words = refl;
   scope = λ t sig h. absurd (let e : false ≡ true = sym (none_pends t sig) ∙ h in cc);
   agree = λ t sig. ap (λ w. has_signal w sig) (blank 0 65 t) ∙ has_none sig ∙ sym (none_pends t sig);
+  sum = sym (ap total counts_blank ∙ first_total);
   bound = let e : total (counts_of (replicate 65 zeros)) ≡ 0 = ap total counts_blank ∙ first_total in omega (arith, e);
 }
 
@@ -55,7 +56,7 @@ first_shown mask e = λ i. record {
   actions = actions_blank i;
 }
 
-module _ (table : Table) (sets : List ℕ) (sound : AreSound table sets) where
+module _ (table : Table) (sets : List ℕ) (all : ℕ) (sound : AreSound table sets all) where
   -- what pends on a thread or on the process
   pub pending_both : (i t sig : ℕ) → i ≡ t → has_signal (bit_or (get_or sets i 0) (get_or sets 0 0)) sig ≡ is_pending (counts_of table.counts) t sig
   pending_both i t sig e =
@@ -150,9 +151,10 @@ module _ (table : Table) (sets : List ℕ) (sound : AreSound table sets) where
 
     -- the table and its words after a count was put
     pub put_sound : has_signal word ≡ put (has_signal (get_or sets place 0)) s (nat_lt 0 count)
+        → (sum : ℕ) → sum ≡ total (put_count (counts_of table.counts) place s count)
         → total (put_count (counts_of table.counts) place s count) < 2 ^ 63
-        → AreSound (record table { counts = set table.counts place (set (get_or table.counts place []) s count) }) (set sets place word)
-    put_sound is bound = record {
+        → AreSound (record table { counts = set table.counts place (set (get_or table.counts place []) s count) }) (set sets place word) sum
+    put_sound is sum so bound = record {
       masks = sound.masks;
       waits = sound.waits;
       is_open = sound.is_open;
@@ -162,6 +164,7 @@ module _ (table : Table) (sets : List ℕ) (sound : AreSound table sets) where
       words = length-set sets place word ∙ sound.words;
       scope = λ t sig h. scope_put t sig (sym (ap (λ (c : ℕ → ℕ → ℕ). nat_lt 0 (c t sig)) changed) ∙ h);
       agree = λ t sig. agree_put is t sig ∙ sym (ap (λ (c : ℕ → ℕ → ℕ). nat_lt 0 (c t sig)) changed);
+      sum = so ∙ sym (ap total changed);
       bound = let e = ap total changed in omega (arith, e, bound);
     }
       where

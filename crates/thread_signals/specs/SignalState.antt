@@ -79,8 +79,9 @@ recipient_in state = recipient state.waits (free_in state)
 abbrev pub next_in : SignalState → (ℕ → ℕ) → Option (ℕ × ℕ × Bool)
 next_in state = next_delivery state.waits (free_in state) state.counts
 
--- every list is whole, only signals in scope pend, the words agree with the counts, the sum fits (this project's own)
-pub record AreSound (table : Table) (sets : List ℕ) : Type 0 where
+-- every list is whole, only signals in scope pend, the words and the sum agree with the counts, the sum fits (this
+-- project's own)
+pub record AreSound (table : Table) (sets : List ℕ) (all : ℕ) : Type 0 where
   pub masks : length table.masks ≡ 64
   pub waits : length table.waits ≡ 64
   pub is_open : length table.is_open ≡ 64
@@ -90,4 +91,5 @@ pub record AreSound (table : Table) (sets : List ℕ) : Type 0 where
   pub words : length sets ≡ 65
   pub scope : (t sig : ℕ) → nat_lt 0 (counts_of table.counts t sig) ≡ true → IsInScope sig
   pub agree : (t sig : ℕ) → has_signal (slice_index_or sets t 0) sig ≡ nat_lt 0 (counts_of table.counts t sig)
+  pub sum : all ≡ total (counts_of table.counts)
   pub bound : total (counts_of table.counts) < 2 ^ 63

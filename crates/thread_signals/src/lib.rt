@@ -2,7 +2,8 @@
 //! signal is delivered next.
 #![tactic(auto)]
 
-ghost use Rattle.std.specs.Prelude.{◌≡◌, ◌+◌, ◌<◌, ◌^◌, ◌&&◌, ◌↔◌, ℕ, true, false, find, IfSome, IsNone};
+ghost use Rattle.std.specs.Prelude.{◌≡◌, ◌+◌, ◌-◌, ◌<◌, ◌≤◌, ◌^◌, ◌&&◌, ◌↔◌, ◌==◌, ℕ, true, false, find, map, nat_lt, slice_index_or, IfSome, IsNone, None};
+ghost use Rattle.std.specs.List.{range_with_len};
 ghost use Rattle.thread_base.specs.Maps.{put, numbered};
 ghost use Rattle.thread_base.specs.Numbers.{IsTid, has_signal, can_block};
 ghost use Rattle.thread_base.specs.Priority.{tids, first_greatest};
@@ -31,6 +32,8 @@ pub struct Signals {
     // By place, the signals that pend there: those whose count is not 0.
     pending: [u32; 65],
     actions: [Action; 32],
+    // How often all signals pend in all places.
+    pended: u64,
 }
 
 impl Model for Signals {
@@ -52,7 +55,7 @@ impl Model for Signals {
       is_open = s.is_open;
       counts = s.counts;
       actions = s.actions;
-    }) s.pending };
+    }) s.pending s.pended };
 }
 
 #[tactic(auto, unfolding(crate::specs::SignalState::state_of), using(thread_base::proofs::MapLemmas::numbered_set, thread_base::proofs::MapLemmas::numbered_read, thread_base::proofs::MapLemmas::numbered_get))]
@@ -69,7 +72,25 @@ impl Signals {
             counts: [[0; 32]; 65],
             pending: [0; 65],
             actions: [Action::Default; 32],
+            pended: 0,
         }
+    }
+
+    /// How often all signals pend in all places.
+    pub fn sum(&self) -> u64
+        ensures { result ≡ total (state_of self.now).counts }
+    {
+        self.pended
+    }
+
+    /// Whether nothing pends anywhere; then nothing is delivered.
+    pub fn is_calm(&self) -> bool
+        ensures calm { result ≡ (total (state_of self.now).counts == 0) }
+        ensures settled { result ≡ true → (eff : ℕ → ℕ) → next_in (state_of self.now) eff ≡ None }
+    {
+        // Only signals in scope pend.
+        let _sound = &self.counts;
+        self.sum() == 0
     }
 
     /// The signals that a thread blocks.
@@ -145,6 +166,33 @@ impl Signals {
         ensures { result ≡ (state_of self.now).counts (place_of t) s }
     {
         self.count_at(place_of(t), s)
+    }
+
+    /// The least signal from a number on that pends on a thread, or on the process.
+    pub fn next_pending(&self, t: Option<Tid>, from: u32) -> Option<Sig>
+        requires { from ≤ 32 }
+        ensures least { let counts = (state_of self.now).counts (place_of t) in
+            result ≡ find (λ sig. nat_lt 0 (counts sig)) (range_with_len from (32 - from)) }
+        ensures none { IsNone result → (sig : ℕ) → from ≤ sig → (state_of self.now).counts (place_of t) sig ≡ 0 }
+    {
+        // Only signals in scope pend.
+        let _sound = &self.counts;
+        let n = self.pending_from(place_of(t), from)?;
+        Some(Sig::of(n))
+    }
+
+    /// By the number of a signal, how often it pends in all places.
+    pub fn left(&self) -> [u64; 32]
+        ensures list { result ≡ map (all_of (state_of self.now).counts) (range_with_len 0 32) }
+        ensures each { (sig : ℕ) → slice_index_or result sig 0 ≡ all_of (state_of self.now).counts sig }
+    {
+        // Only signals in scope pend.
+        let _sound = &self.counts;
+        let mut left = [0; 32];
+        for n in 0..32 {
+            left[n] = self.left_of(n);
+        }
+        left
     }
 
     /// Takes a signal away, as often as it pends on a thread, or on the process, and answers how often that is.
@@ -357,12 +405,56 @@ impl Signals {
         self.counts[place][s.number() as usize]
     }
 
+    /// How often the signal of a number pends in one place.
+    #[tactic(auto, unfolding(crate::specs::SignalState::state_of, crate::specs::SignalState::counts_of))]
+    fn pended_at(&self, place: usize, n: usize) -> u64
+        requires place { place < 65 }
+        requires signal { n < 32 }
+        ensures { result ≡ (state_of self.now).counts place n }
+    {
+        self.counts[place][n]
+    }
+
+    /// Whether the signal of a number pends in one place.
+    fn pends(&self, place: usize, n: u32) -> bool
+        requires place { place < 65 }
+        requires signal { n < 32 }
+        ensures { result ≡ nat_lt 0 ((state_of self.now).counts place n) }
+    {
+        self.pended_at(place, n as usize) > 0
+    }
+
+    /// The least number from one on of a signal that pends in one place.
+    fn pending_from(&self, place: usize, from: u32) -> Option<u32>
+        requires place { place < 65 }
+        requires signal { from ≤ 32 }
+        ensures { let counts = (state_of self.now).counts place in
+            result ≡ find (λ sig. nat_lt 0 (counts sig)) (range_with_len from (32 - from)) }
+    {
+        (from..32).find(|n| self.pends(place, *n))
+    }
+
+    /// How often a signal pends in all places.
+    fn left_of(&self, n: usize) -> u64
+        requires { n < 32 }
+        ensures { result ≡ all_of (state_of self.now).counts n }
+    {
+        // The sum of all counts fits, and only signals in scope pend.
+        let _sound = &self.counts;
+        let mut left = 0;
+        for place in 0..65 {
+            left += self.pended_at(place, n);
+        }
+        left
+    }
+
     /// Sets how often a signal pends in one place.
     fn put_count(&mut self, place: usize, s: Sig, count: u64)
         requires place { place < 65 }
         requires bound { total (put_count (state_of self.old).counts place s count) < 2 ^ 63 }
         ensures { state_of self.new ≡ with_count (state_of self.old) place s count }
     {
+        self.pended = self.pended - self.count_at(place, s) + count;
         self.counts[place][s.number() as usize] = count;
         self.pending[place] = with_signal(self.pending[place], s, count > 0);
     }

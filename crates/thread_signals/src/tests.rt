@@ -76,3 +76,28 @@ fn own_signals_come_first(rt: HostRuntime) {
     signals.set_mask(high, SigSet::of(1 << 10));
     assert_eq!(rt; numbers(signals.next_delivery(&eff)), Some((3, 15, false)));
 }
+
+#[test]
+fn what_pends_is_told_by_place_and_by_signal(rt: HostRuntime) {
+    let mut signals = Signals::new();
+    let t = Tid::at(63);
+    assert!(rt; signals.is_calm());
+    signals.pend(None, Sig::of(31), 7);
+    signals.pend(Some(t), Sig::of(10), 2);
+    signals.pend(Some(t), Sig::of(31), 3);
+    assert!(rt; !signals.is_calm());
+    assert_eq!(rt; signals.sum(), 12);
+    assert_eq!(rt; signals.next_pending(Some(t), 1).map(Sig::number), Some(10));
+    assert_eq!(rt;
+        signals.next_pending(Some(t), 11).map(Sig::number),
+        Some(31)
+    );
+    assert_eq!(rt; signals.next_pending(Some(t), 32).map(Sig::number), None);
+    assert_eq!(rt; signals.next_pending(None, 1).map(Sig::number), Some(31));
+    let left = signals.left();
+    assert_eq!(rt; left[10], 2);
+    assert_eq!(rt; left[31], 10);
+    assert_eq!(rt; left[11], 0);
+    assert_eq!(rt; signals.set_action(Sig::of(31), Action::Ignore), 10);
+    assert_eq!(rt; signals.sum(), 2);
+}

@@ -10,5 +10,5 @@ unfolding state_of
 returns c = λ sig.
     c.of.ensures.members sig
     ∙ ap (λ b. b && can_block sig)
-    (pending_both _ c.self.inside.pending c.self.invariant c.number.result c.args.t sig c.number.ensures.value
+    (pending_both _ c.self.inside.pending _ c.self.invariant c.number.result c.args.t sig c.number.ensures.value
     ∙ ap (λ (v : Table). is_pending (counts_of v.counts) c.args.t sig) c.self.view_is)

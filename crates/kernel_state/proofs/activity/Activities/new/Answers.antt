@@ -1,5 +1,5 @@
 use Rattle.thread_base.proofs.MapLemmas.{numbered_blank}
-use Rattle.kernel_state.specs.View.{activities_of, no_activity}
+use Rattle.kernel_state.specs.Records.{activities_of, no_activity}
 use Rattle.kernel_state.proofs.activity.Activities.new.Goals as goal
 
 pub returns : goal.returns

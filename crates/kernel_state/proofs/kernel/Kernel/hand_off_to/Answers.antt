@@ -24,7 +24,7 @@ returns-clause-noted g c = λ first before mutex noted there leaves.
     let often = c.count_due-count.ensures ∙ ap (λ (x : Thread). count_due x.standing) (c.known.ensures ∙ ap (λ (x : Tables _). (view order x).threads u) c.tables.ensures.tables) in
     let due = c.reply_due-reply.ensures ∙ ap (λ (x : Thread). reply_due x.standing) (c.known-2.ensures ∙ ap (λ (x : Tables _). (view order x).threads u) c.tables-2.ensures.tables) in
     let waits = c.requires.waits in
-    let good = (rests order g.R.Ready.prio k c.tables.ensures.sound c.requires.idle).0.good in
+    let good = (rests order g.R.Ready.prio k c.tables.ensures.sound c.requires.idle).0 in
     subst (HasNotedSome order first c.note_more-3.new.self) (handed_over s before m u mutex good there leaves waits count often reply due)
     (noted_three order first k before noted
     c.note_more.new.self (OfMutex m (Hold Free)) (subst (NotesMore order k c.note_more.new.self) c.freed.ensures c.note_more.ensures.noted) (can_hold s before m u mutex good there leaves waits)

@@ -1,17 +1,16 @@
 use Rattle.std.proofs.Common.{ap, sym, refl, subst}
 use Rattle.posix_model.specs.State.{State}
 use Rattle.posix_model.specs.Good.{IsGood}
-use Rattle.posix_model.specs.Start.{start_state}
-use Rattle.kernel_state.specs.View.{IsPrompt}
+use Rattle.kernel_state.specs.Begun.{HasRoom}
 use Rattle.posix_model.proofs.GoodMoves.{goodness}
 use Rattle.kernel_state.proofs.KernelLemmas.{chosen_alone}
-use Rattle.kernel_state.proofs.SteadyLemmas.{calm_prompt}
+use Rattle.kernel_state.proofs.StartLemmas.{start_room}
 use Rattle.kernel_state.proofs.kernel.Kernel.new.Goals as goal
 
 pub invariant_of-result : goal.invariant_of-result
 invariant_of-result g c =
     let tables = c.in_ok-new.ensures in
-    record { current = tables.current; phase = (record { good = subst IsGood (sym tables.start) (goodness.0 c.args.memory c.args.entry.0); prompt = subst IsPrompt (sym tables.start) (calm_prompt (start_state c.args.memory c.args.entry.0) refl) }, tables.untold) }
+    record { current = tables.current; phase = (subst IsGood (sym tables.start) (goodness.0 c.args.memory c.args.entry.0), tables.untold) }
 
 pub returns-clause-ready : goal.returns-clause-ready
 returns-clause-ready g c =
@@ -19,6 +18,6 @@ returns-clause-ready g c =
     record {
       idle = record { main = refl; rest = c.new-2.ensures };
       going_on = ap (λ (s : State). s.over) start;
-      calm = ap (λ (s : State). s.pending) start;
+      few = subst HasRoom (sym start) (start_room c.args.memory c.args.entry.0);
       first = chosen_alone _ 1 (ap (λ (s : State). s.ready) start);
     }

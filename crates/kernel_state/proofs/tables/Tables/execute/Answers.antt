@@ -1,9 +1,21 @@
+use Rattle.std.proofs.Common.{◌≡◌, ◌∙◌, ap, sym, subst}
+use Rattle.kernel_state.specs.Records.{RecordsState}
+use Rattle.kernel_state.specs.View.{view, AreCurrent}
+use Rattle.kernel_state.specs.Executing.{HasExecuted}
 use Rattle.kernel_state.proofs.ExecutingLemmas.{executed, executed_current}
 use Rattle.kernel_state.proofs.tables.Tables.execute.Goals as goal
 
 pub returns-clause-executed : goal.returns-clause-executed
 returns-clause-executed g c =
-    executed g.R.Ready.order c.args.self.now c.exec.new.regs c.exec.new.mem c.requires c.exec.result c.exec.ensures.effect
+    let k = c.args.self.now in
+    let order = g.R.Ready.order in
+    subst (λ r. HasExecuted (view order k) k.records.placed c.execute.result (view order (record k { records = r; memory = c.execute.new.memory }))) (sym c.execute.ensures.others)
+    (executed order k c.execute.new.self.regs c.execute.new.memory c.requires c.execute.result c.execute.ensures.effect)
 
 pub returns-clause-current : goal.returns-clause-current
-returns-clause-current g c = executed_current g.R.Ready.order c.args.self.now c.exec.new.regs c.exec.new.mem (g.R.Ready.prio c.args.self.now.ready)
+returns-clause-current g c =
+    let k = c.args.self.now in
+    let order = g.R.Ready.order in
+    λ current.
+    subst (λ r. AreCurrent (g.R.Ready.prio k.ready) (view order (record k { records = r; memory = c.execute.new.memory }))) (sym c.execute.ensures.others)
+    (executed_current order k c.execute.new.self.regs c.execute.new.memory (g.R.Ready.prio k.ready) current)

@@ -1,0 +1,38 @@
+use Rattle.std.proofs.Common.{◌≡◌, ◌∙◌, ap, sym, refl, subst, ℕ, true, List, [], ◌∷◌, length, Option, Some, None}
+use Rattle.thread_base.specs.Maps.{put}
+use Rattle.thread_base.proofs.MapLemmas.{put_got, put_same}
+use Rattle.context_frames.specs.Contexts.{stack_of, saved_of, below_top, top_of}
+use Rattle.context_frames.specs.declared.Frame.{Frame as KeptFrame}
+use Rattle.thread_signals.specs.SignalState.{state_of}
+use Rattle.thread_table.specs.Rows.{rows, free_number, put_found}
+use Rattle.posix_model.specs.State.{Thread, Frame, is_of_handler}
+use Rattle.kernel_state.specs.Records.{RecordsState, AreCached, threads_in, thread_in, frames_in, frames_of, frame_of, contexts_of, registers_of, activities_of, has_thread, masks_in, entered, left, left_by}
+use Rattle.kernel_state.specs.contracts.records.Records.{the_view}
+use Rattle.kernel_state.proofs.RecordLemmas.{is_row, frames_there, changed, gone, alike, cached_put, cached_still, depth_of, depth_same, frames_same, frames_put, frames_none, frames_pushed, frames_below, frames_bare, kept_at, row_there}
+use Rattle.kernel_state.proofs.records.Records.put.Goals as goal
+
+pub put-requires : goal.put-requires
+put-requires c = is_row (the_view c.self.inside) c.args.t (subst (λ r. has_thread r c.args.t ≡ true) (sym c.self.view_is) c.requires)
+
+abbrev state : goal.After-note → RecordsState
+state c = record { rows = c.put.new.self; activities = c.put-2.new.self; frames = c.put_context.new.frames; signals = c.note.new.signals; regs = c.put_context.new.regs; placed = c.self.inside.placed }
+
+shown : (c : goal.After-note) → threads_in (state c) ≡ put (threads_in (the_view c.self.inside)) c.args.t (thread_in c.args.known (frames_in (the_view c.self.inside) c.args.t))
+shown c =
+    let r = the_view c.self.inside in
+    changed r (state c) c.args.t c.args.known.row c.args.known.activity c.args.known.mask (frames_in r c.args.t) (registers_of c.args.known.regs)
+    c.put.ensures c.put-2.ensures c.note.ensures.masks (frames_same r (state c) c.args.t c.put_context.ensures.frames) c.put_context.ensures.contexts
+
+pub invariant_of-self : goal.invariant_of-self
+invariant_of-self c =
+    let r = the_view c.self.inside in
+    let fs = frames_in r c.args.t in
+    cached_put r (state c) c.args.t (thread_in c.args.known fs) c.self.invariant (shown c) c.note.ensures.waits
+    (c.note.ensures.is_open fs (c.depth.ensures.frames ∙ depth_same (stack_of c.put_context.new.frames c.args.t) (stack_of r.frames) (stack_of c.put_context.new.frames) c.args.t c.put_context.ensures.frames refl))
+
+pub returns-clause-threads : goal.returns-clause-threads
+returns-clause-threads c =
+    shown c
+    ∙ subst (λ r. put (threads_in (the_view c.self.inside)) c.args.t (thread_in c.args.known (frames_in (the_view c.self.inside) c.args.t)) ≡ put (threads_in r) c.args.t (thread_in c.args.known (threads_in r c.args.t).frames)) c.self.view_is
+    (ap (λ fs. put (threads_in (the_view c.self.inside)) c.args.t (thread_in c.args.known fs))
+    (sym (frames_there (the_view c.self.inside) c.args.t (subst (λ r. has_thread r c.args.t ≡ true) (sym c.self.view_is) c.requires))))
