@@ -2,5 +2,7 @@
 #![tactic(auto)]
 
 mod arrival;
+mod delivery;
 
 pub use arrival::begin_arrival;
+pub use delivery::begin_delivery;
