@@ -20,6 +20,7 @@ use Rattle.posix_model.specs.declared.RetakeReply.TheVariants.{Answer as AnswerR
 use Rattle.posix_model.proofs.GoodMoves.{deliveries_keep_good}
 use Rattle.posix_model.proofs.StandingLemmas.{never, is_something, aiming}
 use Rattle.posix_model.proofs.WakeLemmas.{with_threads_of, wake_leaves}
+use Rattle.kernel_state.specs.declared.kernel.MainLine.TheVariants.{OfThread}
 use Rattle.kernel_state.specs.View.{view}
 use Rattle.kernel_state.specs.Begun.{HasRoom, HasNoted, HasNotedSome, NotesMore, CanStart, IsBegun}
 use Rattle.kernel_state.specs.Changing.{change_by}
@@ -153,5 +154,5 @@ module _ {R : Type 0} (order : R → List ℕ) (k : KernelState R) (t sig origin
     pub can_begin : CanStart order r
     can_begin = can_start order k r made.so_far made.noted good_after
 
-    pub is_begun : (after : KernelState R) (main : MainLine) → main ≡ record { thread = t; head = head } → after ≡ record r { main = Some main } → IsBegun order k after (deliver (view order k.tables))
-    is_begun after main is begun = subst (IsBegun order k after) (ap (λ (x : MainLine). told x.thread x.head made.so_far) is ∙ made.told) (begun_by order k r made.so_far made.noted after main begun)
+    pub is_begun : (after : KernelState R) (main : MainLine) → main ≡ OfThread t head → after ≡ record r { main = Some main } → IsBegun order k after (deliver (view order k.tables))
+    is_begun after main is begun = subst (IsBegun order k after) made.told (begun_by order k r made.so_far made.noted after (OfThread t head) (begun ∙ (λ i. record r { main = Some (is i) })))
