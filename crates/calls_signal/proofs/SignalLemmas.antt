@@ -7,7 +7,7 @@ use Rattle.thread_base.specs.declared.action.Action.{Action}
 use Rattle.thread_base.proofs.MapLemmas.{put_same}
 use Rattle.posix_model.specs.State.{State, Thread, is_absent}
 use Rattle.posix_model.specs.Arrivals.{dropped}
-use Rattle.posix_model.specs.Changes.{Outcome, begun, set_thread}
+use Rattle.posix_model.specs.Changes.{begun, set_thread}
 use Rattle.posix_model.specs.Deliveries.{left_of}
 use Rattle.posix_model.specs.Reports.{nothing_told}
 use Rattle.posix_model.specs.SignalCalls.{forgotten, with_action}
