@@ -1,4 +1,5 @@
 mod ChangeLemmas
 mod LinkLemmas
+pub mod ListLemmas
 mod RingLemmas
 mod UnlinkLemmas
