@@ -1,2 +1,2 @@
-mod ChoiceLemmas
+pub mod ChoiceLemmas
 pub mod WaitingLemmas
