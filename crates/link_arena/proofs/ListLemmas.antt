@@ -1,5 +1,5 @@
 -- For those who keep lists of nodes: what one list is after a change, and how a list is gone through.
-use Rattle.std.proofs.Common.{◌≡◌, ◌∙◌, refl, sym, ap, subst, arith, inl, inr, ℕ, ◌<◌, ◌==◌, if◌then◌else◌, true, false, List, [], ◌∷◌, Option, Some, None, IsSome, length, suc, zero, map, eqb}
+use Rattle.std.proofs.Common.{◌≡◌, ◌∙◌, refl, sym, ap, subst, arith, inl, inr, ℕ, ◌<◌, ◌==◌, if◌then◌else◌, true, false, List, [], ◌∷◌, Option, Some, None, IsSome, IfSome, length, suc, zero, map, eqb}
 use Rattle.std.proofs.lemmas.Bool.{eq-eqb, ne_eqb, eqb-true, eqb-false, cases_lt, cases_Bool}
 use Rattle.std.proofs.lemmas.Bool.Decides.{nat_tests}
 use Rattle.std.proofs.lemmas.List.{get_or_past, get_or-map, length-map}
@@ -126,3 +126,23 @@ from_next (n ∷ ns) u once e =
           let later : is_in u ns ≡ true = rw un at e in
           rw other (from_next ns u once.1 later ∙ ap (λ ks. u ∷ ks) (sym (skips n ns (after_in u ns) once.0 (λ x is. after_is_in ns u x is)))))
     ]
+
+-- a walk that has come to a node of the list, and what is after it
+pub walk_next : (ns : List ℕ) (o after : Option ℕ) (u : ℕ) → StandsOnce ns → o ≡ Some u → is_in u ns ≡ true → after ≡ after_in u ns → from_node o ns ≡ u ∷ from_node after ns
+walk_next ns o after u once at stands next =
+    ap (λ x. from_node x ns) at ∙ from_next ns u once stands ∙ ap (λ x. u ∷ from_node x ns) (sym next)
+
+-- a walk comes to an end
+pub walk_shorter : (ns : List ℕ) (o after : Option ℕ) (u : ℕ) → StandsOnce ns → o ≡ Some u → is_in u ns ≡ true → after ≡ after_in u ns → length (from_node after ns) < length (from_node o ns)
+walk_shorter ns o after u once at stands next =
+    let all = ap length (walk_next ns o after u once at stands next) in
+    omega arith
+
+-- where a walk begins, and where it comes next, is a node of the list
+pub walk_first : (ns : List ℕ) (o : Option ℕ) → o ≡ first_of ns → IfSome o (λ x. is_in x ns ≡ true)
+walk_first ns None e = tt
+walk_first ns (Some x) e = first_is_in ns x (sym e)
+
+pub walk_after : (ns : List ℕ) (o : Option ℕ) (u : ℕ) → o ≡ after_in u ns → IfSome o (λ x. is_in x ns ≡ true)
+walk_after ns None u e = tt
+walk_after ns (Some x) u e = after_is_in ns u x (sym e)

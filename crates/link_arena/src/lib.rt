@@ -4,6 +4,7 @@
 mod rings;
 #[cfg(test)]
 mod tests;
+mod waits;
 
 ghost use Rattle.std.specs.Prelude.{◌≡◌, ◌<◌, ◌≤◌, ◌↔◌, [], ℕ, true, false, None, IfOk, IfSome, IfNone, IsNone, IsSome, length, replicate};
 ghost use Rattle.thread_base.specs.Orders.{is_in};
@@ -14,6 +15,7 @@ use rings::Rings;
 use std::alloc::Global;
 use std::marker::Model;
 use thread_base::NoMemory;
+pub use waits::{WaitQueues, better};
 
 /// Lists of nodes, one for each head, each linked in both ways. A node stands in one list at most, and each
 /// operation takes constant time. All memory is taken when they are made.

@@ -12,7 +12,7 @@ use Rattle.thread_base.proofs.PriorityLemmas.{greatest_above, greatest_at}
 use Rattle.thread_base.proofs.SearchLemmas.{in_tids, range_in, find_member}
 use Rattle.link_arena.specs.Chains.{list_of, head_in, first_of, with_before}
 use Rattle.link_arena.proofs.ListLemmas.{found_in, has_place, has_none, first_is_in}
-use Rattle.tid_list.proofs.ChoiceLemmas.{first_empty, first_member}
+use Rattle.link_arena.proofs.ChoiceLemmas.{first_empty, first_member}
 use Rattle.ready_queues.specs.Queue.{Queue, level_of}
 use Rattle.ready_queues.specs.Ranks.{number_of, ranked_in, ranked, standing, shown_order, at_level, AreNumbered, AllStand, IsRanked, IsTop}
 use Rattle.ready_queues.proofs.RankLemmas.{filtered, unfiltered, rises_filter, ranked_back, ranked_is, ranked_before, ranked_last}

@@ -7,6 +7,7 @@ mod numbers;
 mod plain;
 #[cfg(test)]
 mod tests;
+mod tids;
 
 ghost use Rattle.std.specs.Prelude.{◌≡◌, ◌++◌, ◌↔◌, [], ◌∷◌, ℕ, List, true, false, IfSome, IsNone};
 ghost use Rattle.thread_base.specs.Maps.{put};
