@@ -17,7 +17,8 @@ pub struct Numbers {
 impl Numbers {
     /// Numbers of which the first to be given is this one.
     pub fn starting_at(next: u64) -> Numbers
-        ensures { AreNumbered result.given result.next [] }
+        ensures next { result.next ≡ next }
+        ensures no_one { AreNumbered result.given result.next [] }
     {
         Numbers {
             given: [0; 65],
