@@ -1,8 +1,8 @@
 -- For those who keep lists of nodes: what one list is after a change, and how a list is gone through.
-use Rattle.std.proofs.Common.{◌≡◌, ◌∙◌, refl, sym, ap, subst, arith, inl, inr, ℕ, ◌<◌, ◌==◌, if◌then◌else◌, true, false, List, [], ◌∷◌, Option, Some, None, IsSome, IfSome, length, suc, zero, map, eqb}
-use Rattle.std.proofs.lemmas.Bool.{eq-eqb, ne_eqb, eqb-true, eqb-false, cases_lt, cases_Bool}
+use Rattle.std.proofs.Common.{◌≡◌, ◌∙◌, refl, sym, ap, subst, arith, inl, inr, ℕ, ◌<◌, ◌==◌, if◌then◌else◌, true, false, List, [], ◌∷◌, Option, Some, None, IsSome, IfSome, length, suc, zero, map, set, replicate, ◌++◌, get_or-set_same, get_or-set_other, eqb}
+use Rattle.std.proofs.lemmas.Bool.{eq-eqb, ne_eqb, eqb-true, eqb-false, cases_eq, cases_lt, cases_Bool}
 use Rattle.std.proofs.lemmas.Bool.Decides.{nat_tests}
-use Rattle.std.proofs.lemmas.List.{get_or_past, get_or-map, length-map}
+use Rattle.std.proofs.lemmas.List.{get_or_past, get_or-map, length-map, get_or-replicate, length-replicate}
 use Rattle.thread_base.specs.Orders.{is_in, without}
 use Rattle.link_arena.specs.Chains.{StandsOnce, NodeLists, AreApart, list_of, head_in, one_more, next_in, first_of, after_in, with_before}
 
@@ -11,6 +11,22 @@ map_at f lists k none =
     elim (cases_lt k (length lists)) [
       | inl low ↦ get_or-map f lists k [] [] low
       | inr past ↦ get_or_past (map f lists) k [] (omega (arith, length-map lists f)) ∙ sym none ∙ sym (ap f (get_or_past lists k [] past))
+    ]
+
+-- no list has a node where all are empty
+pub no_nodes : (heads h : ℕ) → list_of (replicate heads []) h ≡ []
+no_nodes heads h =
+    elim (cases_lt h heads) [
+      | inl low ↦ get_or-replicate heads h [] [] low
+      | inr past ↦ get_or_past (replicate heads []) h [] (omega (arith, length-replicate {A = List ℕ} heads []))
+    ]
+
+-- a list that got a node more, beside the others
+pub list_pushed : (lists : List (List ℕ)) (head node h : ℕ) → head < length lists → list_of (set lists head (list_of lists head ++ node ∷ [])) h ≡ (if h == head then list_of lists head ++ node ∷ [] else list_of lists h)
+list_pushed lists head node h low =
+    elim (cases_eq h head) [
+      | inl same ↦ rw (eq-eqb h head same) (ap (λ k. list_of (set lists head (list_of lists head ++ node ∷ [])) k) same ∙ get_or-set_same lists head (list_of lists head ++ node ∷ []) [] low)
+      | inr other ↦ rw (ne_eqb h head other) (get_or-set_other lists head h (list_of lists head ++ node ∷ []) [] other)
     ]
 
 -- each list without a node

@@ -2,6 +2,7 @@
 #![tactic(auto)]
 
 mod rings;
+mod stacks;
 #[cfg(test)]
 mod tests;
 mod waits;
@@ -12,6 +13,7 @@ ghost use Rattle.link_arena.specs.Chains.{NodeLists, list_of, head_in, first_of,
 ghost use Rattle.link_arena.specs.Rings.{node_of};
 
 use rings::Rings;
+pub use stacks::Stacks;
 use std::alloc::Global;
 use std::marker::Model;
 use thread_base::NoMemory;
