@@ -1,5 +1,6 @@
 mod ChangeLemmas
 pub mod ChoiceLemmas
+pub mod KeptLemmas
 mod LinkLemmas
 pub mod ListLemmas
 mod RingLemmas

@@ -1,6 +1,6 @@
 ghost use Rattle.std.specs.Prelude.{◌≡◌, ◌<◌, length};
 
-use crate::{Links, WaitQueues};
+use crate::{Links, Stacks, WaitQueues};
 use std::test::Fail;
 use thread_base::Tid;
 
@@ -176,5 +176,28 @@ fn earliest_of_the_greatest(rt: HostRuntime) -> Result<(), Fail> {
         queues.remove(t);
     }
     assert_eq!(rt; queues.best(3, &levels), None);
+    Ok(())
+}
+
+#[test]
+fn stacks_of_32(rt: HostRuntime) -> Result<(), Fail> {
+    let mut stacks = Stacks::new(rt.alloc())?;
+    let t = Tid::new(7).ok_or("number")?;
+    let other = Tid::new(64).ok_or("number")?;
+    assert_eq!(rt; (stacks.pop(t), stacks.top(t)), (None, None));
+    let below = stacks.push(other);
+    for depth in 0..32u32 {
+        assert_eq!(rt; stacks.depth(t), depth);
+        let node = stacks.push(t);
+        assert!(rt; node.is_some(), "{depth}");
+        assert_eq!(rt; stacks.top(t), node);
+    }
+    assert_eq!(rt; stacks.push(t), None);
+    let top = stacks.top(t);
+    assert_eq!(rt; stacks.pop(t), top);
+    assert_eq!(rt; stacks.push(t), top);
+    stacks.clear(t);
+    assert_eq!(rt; (stacks.depth(t), stacks.top(t)), (0, None));
+    assert_eq!(rt; (stacks.depth(other), stacks.top(other)), (1, below));
     Ok(())
 }

@@ -8,16 +8,8 @@ use Rattle.std.proofs.lemmas.Nat.Bits.{bit_at-zero, bit_at-suc, bit_at_above, bi
 use Rattle.thread_base.specs.Orders.{is_in, without}
 use Rattle.thread_base.proofs.OrderLemmas.{without_absent}
 use Rattle.link_arena.specs.Chains.{NodeLists, AreApart, StandsOnce, list_of, first_of, pushed, unlinked, inserted, with_before, next_in, after_in}
-use Rattle.link_arena.proofs.ListLemmas.{list_unlinked, list_inserted, next_at, first_is_in, after_is_in}
+use Rattle.link_arena.proofs.ListLemmas.{no_nodes, list_pushed, list_unlinked, list_inserted, next_at, first_is_in, after_is_in}
 use Rattle.ready_queues.specs.Ranks.{mark_of, AreMarked, IsTop}
-
--- no list has a node
-no_nodes : (heads h : ℕ) → list_of (replicate heads []) h ≡ []
-no_nodes heads h =
-    elim (cases_lt h heads) [
-      | inl low ↦ get_or-replicate heads h [] [] low
-      | inr past ↦ get_or_past (replicate heads []) h [] (omega (arith, length-replicate {A = List ℕ} heads []))
-    ]
 
 pub new_is : (lists : NodeLists) → lists ≡ record { nodes = 65; lists = replicate 32 [] } → (h : ℕ) → list_of lists.lists h ≡ []
 new_is links e h = ap (λ l. list_of l.lists h) e ∙ no_nodes 32 h
@@ -57,14 +49,6 @@ unmarked_none (u ∷ us) e = absurd (let f : 1 ≡ 0 = e in omega arith)
 marked_some : (ts : List ℕ) → mark_of ts ≡ 1 → (t : ℕ) × (first_of ts ≡ Some t)
 marked_some [] e = absurd (let f : 0 ≡ 1 = e in omega arith)
 marked_some (u ∷ us) e = (u, refl)
-
--- a list that got a thread more, beside the others
-pub list_pushed : (lists : List (List ℕ)) (p t h : ℕ) → p < length lists → list_of (set lists p (list_of lists p ++ t ∷ [])) h ≡ (if h == p then list_of lists p ++ t ∷ [] else list_of lists h)
-list_pushed lists p t h low =
-    elim (cases_eq h p) [
-      | inl same ↦ rw (eq-eqb h p same) (ap (λ k. list_of (set lists p (list_of lists p ++ t ∷ [])) k) same ∙ get_or-set_same lists p (list_of lists p ++ t ∷ []) [] low)
-      | inr other ↦ rw (ne_eqb h p other) (get_or-set_other lists p h (list_of lists p ++ t ∷ []) [] other)
-    ]
 
 pub push_marks : (links : NodeLists) (bits p t : ℕ) → AreMarked links bits → p < 32 → AreApart (pushed p t links)
     → AreMarked (pushed p t links) (bit_or bits (1 * 2 ^ p % 2 ^ 32))

@@ -1,8 +1,8 @@
 use Rattle.std.proofs.Common.{◌≡◌, ◌∙◌, ap, subst, arith, ◌<◌, ◌∷◌, ◌++◌, [], length, ◌==◌, if◌then◌else◌}
 use Rattle.thread_base.specs.Orders.{is_in}
 use Rattle.link_arena.specs.Chains.{AreApart, list_of, pushed}
-use Rattle.link_arena.proofs.ListLemmas.{has_none}
-use Rattle.ready_queues.proofs.LevelLemmas.{push_marks, list_pushed}
+use Rattle.link_arena.proofs.ListLemmas.{has_none, list_pushed}
+use Rattle.ready_queues.proofs.LevelLemmas.{push_marks}
 use Rattle.ready_queues.proofs.levels.Levels.push.Goals as goal
 
 pub push_back-requires-clause-free : goal.push_back-requires-clause-free
