@@ -4,11 +4,11 @@
 #[cfg(test)]
 mod tests;
 
-ghost use Rattle.std.specs.Prelude.{◌≡◌, ◌==◌, ◌++◌, ◌≤◌, ◌↔◌, [], ◌∷◌, not, length, IfOk, IsNone, replicate, if◌then◌else◌};
+ghost use Rattle.std.specs.Prelude.{◌≡◌, ◌==◌, ◌++◌, ◌≤◌, ◌↔◌, [], ◌∷◌, not, length, IfOk, IsNone, if◌then◌else◌};
 ghost use Rattle.thread_base.specs.Maps.{put};
-ghost use Rattle.cancel_cleanup.specs.Cancellations.{flags_of, cleanups_of, flags_from, first_flags, last_of, before_last, no_cleanups};
+ghost use Rattle.cancel_cleanup.specs.Cancellations.{flags_of, cleanups_of, flags_from, first_flags, last_of, before_last};
 
-use arrayvec::ArrayVec;
+use link_arena::Stacks;
 use std::alloc::Global;
 use std::marker::Model;
 pub use thread_base::Cleanup;
@@ -34,18 +34,21 @@ const FIRST: Flags = Flags {
 #[derive(Drop)]
 pub struct Cancels {
     flags: [Flags; 64],
-    stacks: Vec<ArrayVec<Cleanup, 32>>,
+    stacks: Stacks,
+    /// The record of each node.
+    records: Vec<Cleanup>,
 }
 
 impl Model for Cancels {
     ghost use Rattle.std.specs.Prelude.{◌≡◌, length};
+    ghost use Rattle.link_arena.specs.Stacking.{stack_at, HavePlaces};
     ghost use Rattle.cancel_cleanup.specs.Cancellations.{Cancellations};
 
     ghost Value = { Cancellations };
 
-    ghost view = { λ c. record { flags = c.flags; stacks = c.stacks.items } };
+    ghost view = { λ c. record { flags = c.flags; lists = c.stacks; records = c.records.items } };
 
-    ghost invariant = { λ c. (length c.flags ≡ 64) × (length c.stacks.items ≡ 64) };
+    ghost invariant = { λ c. (length c.flags ≡ 64) × HavePlaces c.records.items (stack_at c.stacks) };
 }
 
 #[tactic(auto, unfolding(crate::specs::Cancellations::flags_of, crate::specs::Cancellations::cleanups_of), using(thread_base::proofs::MapLemmas::numbered_set, thread_base::proofs::MapLemmas::numbered_read))]
@@ -56,10 +59,12 @@ impl Cancels {
         ensures flags { IfOk result (λ c. flags_of c ≡ (λ _. first_flags)) }
         ensures cleanups { IfOk result (λ c. cleanups_of c ≡ (λ _. [])) }
     {
-        let stacks = empty_stacks(alloc)?;
+        let stacks = Stacks::new(alloc)?;
+        let records = blanks(alloc)?;
         Ok(Cancels {
             flags: [FIRST; 64],
             stacks,
+            records,
         })
     }
 
@@ -70,11 +75,10 @@ impl Cancels {
             ≡ (if result then put (cleanups_of self.old) t (cleanups_of self.old t ++ c ∷ []) else cleanups_of self.old) }
         ensures flags { flags_of self.new ≡ flags_of self.old }
     {
-        let stack = &mut self.stacks[t.index()];
-        if stack.is_full() {
+        let Some(node) = self.stacks.push(t) else {
             return false;
-        }
-        stack.push(c);
+        };
+        self.records[node as usize] = c;
         true
     }
 
@@ -85,7 +89,8 @@ impl Cancels {
         ensures cleanups { cleanups_of self.new ≡ put (cleanups_of self.old) t (before_last (cleanups_of self.old t)) }
         ensures flags { flags_of self.new ≡ flags_of self.old }
     {
-        self.stacks[t.index()].pop()
+        let node = self.stacks.pop(t)?;
+        Some(self.records[node as usize])
     }
 
     /// A thread's last record, which stays; None exactly where it has none.
@@ -93,7 +98,8 @@ impl Cancels {
         ensures last { result ≡ last_of (cleanups_of self.now t) }
         ensures empty { IsNone result ↔ (cleanups_of self.now t ≡ []) }
     {
-        self.stacks[t.index()].last().copied()
+        let node = self.stacks.top(t)?;
+        Some(self.records[node as usize])
     }
 
     /// How many records a thread has, at most 32.
@@ -101,7 +107,7 @@ impl Cancels {
         ensures cleanups { result ≡ length (cleanups_of self.now t) }
         ensures limit { result ≤ 32 }
     {
-        self.stacks[t.index()].len() as u32
+        self.stacks.depth(t)
     }
 
     /// A thread's flags: enabled, asynchronous, pending.
@@ -131,21 +137,21 @@ impl Cancels {
         ensures cleanups { cleanups_of self.new ≡ put (cleanups_of self.old) t [] }
     {
         self.flags[t.index()] = FIRST;
-        self.stacks[t.index()].clear();
+        self.stacks.clear(t);
     }
 }
 
-/// A list of records for each thread, none of which has one.
-fn empty_stacks(alloc: Global) -> Result<Vec<ArrayVec<Cleanup, 32>>, NoMemory>
-    ensures { IfOk result (λ v. v.items ≡ replicate 64 no_cleanups) }
+/// A blank record for each node.
+fn blanks(alloc: Global) -> Result<Vec<Cleanup>, NoMemory>
+    ensures { IfOk result (λ v. length v.items ≡ 2048) }
 {
-    let Ok(mut stacks) = Vec::with_capacity(alloc, 64) else {
+    let Ok(mut records) = Vec::with_capacity(alloc, 2048) else {
         return Err(NoMemory);
     };
-    for index in 0..64u32 {
-        if stacks.push(ArrayVec::new()).is_err() {
+    for index in 0..2048u32 {
+        if records.push(Cleanup::default()).is_err() {
             return Err(NoMemory);
         }
     }
-    Ok(stacks)
+    Ok(records)
 }

@@ -1,14 +1,14 @@
 -- The conditions that a table shows after a change of one condition or of its waiters.
-use Rattle.std.proofs.Common.{◌≡◌, ◌∙◌, refl, sym, ap, arith, inl, inr, ℕ, ◌<◌, ◌≤◌, true, false, eqb, is_some, IsSome, IsNone, List, [], ◌∷◌, ◌++◌, Option, Some, None, length, get_or, set, replicate, length-set, get_or-set_same, get_or-set_other, Bool}
+use Rattle.std.proofs.Common.{◌≡◌, ◌∙◌, refl, sym, ap, arith, inl, inr, ℕ, ◌<◌, ◌≤◌, true, false, is_some, IsSome, IsNone, List, [], ◌∷◌, ◌++◌, Option, Some, None, length, get_or, set, replicate, length-set, get_or-set_same, get_or-set_other, Bool}
 use Rattle.std.specs.Option.{ForSome}
 use Rattle.std.specs.List.{list_any}
 use Rattle.std.proofs.lemmas.Bool.{cases_eq, cases_lt, cases_Bool, eq-eqb, eqb-true}
 use Rattle.std.proofs.lemmas.List.{get_or_default, get_or_past, get_or-replicate, length-replicate}
 use Rattle.thread_base.specs.Maps.{put}
-use Rattle.thread_base.specs.Orders.{without}
+use Rattle.thread_base.specs.Orders.{is_nil, without}
 use Rattle.thread_base.proofs.SearchLemmas.{any_none, in_range}
 use Rattle.thread_base.proofs.MapLemmas.{put_is, put_same, put_other, first_put, second_put, both_put}
-use Rattle.tid_list.specs.Waiting.{queue_of}
+use Rattle.link_arena.specs.Waiting.{queue_of}
 use Rattle.thread_base.specs.Objects.{Condition, still_bound, cond_mutex, cond_waiters, entered, without_waiter, is_mutex, condition_numbers}
 use Rattle.cond_table.specs.ConditionMap.{Table, condition_of, conditions, waiting, AreSound}
 
@@ -157,12 +157,12 @@ sound_joined mutexes queues others sound c t m within e =
     others c (λ ts. ts ++ t ∷ []) e (λ none. absurd (let f : true ≡ false = sym (ap is_some (get_or-set_same mutexes c (Some m) None within)) ∙ none in cc))
 
 -- a list of no length is empty, and no other is
-pub nobody : (ts : List ℕ) → eqb (length ts) 0 ≡ true → ts ≡ []
+pub nobody : (ts : List ℕ) → is_nil ts ≡ true → ts ≡ []
 nobody [] e = refl
-nobody (t ∷ ts) e = absurd (let f = eqb-true (length (t ∷ ts)) 0 e in omega arith)
+nobody (t ∷ ts) e = absurd (let f : false ≡ true = e in cc)
 
-pub somebody : (ts : List ℕ) → eqb (length ts) 0 ≡ false → ts ≡ [] → ⊥
-somebody ts e empty = let f : true ≡ false = sym (ap (λ us. eqb (length us) 0) empty) ∙ e in cc
+pub somebody : (ts : List ℕ) → is_nil ts ≡ false → ts ≡ [] → ⊥
+somebody ts e empty = let f : true ≡ false = sym (ap is_nil empty) ∙ e in cc
 
 blank : {A : Type 0} (none : A) (n m : ℕ) → get_or (replicate n none) m none ≡ none
 blank none n m =

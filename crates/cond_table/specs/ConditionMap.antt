@@ -1,7 +1,7 @@
 -- What a table of condition variables shows: for each number nothing, or a condition.
 use Rattle.std.specs.Prelude.{◌≡◌, ℕ, List, [], Option, Some, None, IsNone, length, slice_index_or}
 use Rattle.thread_base.specs.Objects.{Condition, cond_waiters, still_bound}
-use Rattle.tid_list.specs.Waiting.{queue_of}
+use Rattle.link_arena.specs.Waiting.{queue_of}
 
 -- what the table keeps: for each condition a mutex, and the waiters of each number (this project's own)
 pub record Table : Type 0 where

@@ -10,14 +10,15 @@ ghost use Rattle.std.specs.Option.{ForSome};
 ghost use Rattle.thread_base.specs.Maps.{put, numbered};
 ghost use Rattle.thread_base.specs.Orders.{is_in};
 ghost use Rattle.thread_base.specs.Priority.{first_greatest};
-ghost use Rattle.tid_list.specs.Waiting.{StandsInNone, StandsInOne, AreApart};
+ghost use Rattle.link_arena.specs.Waiting.{StandsInNone, StandsInOne, AreApart};
 ghost use Rattle.thread_base.specs.Objects.{cond_mutex, cond_waiters, new_condition, entered, without_waiter, is_mutex, condition_numbers};
 ghost use Rattle.cond_table.specs.ConditionMap.{conditions, waiting};
 
+use arrayvec::ArrayVec;
+use link_arena::WaitQueues;
 use std::alloc::Global;
 use std::marker::Model;
 use thread_base::{NoMemory, Tid};
-use tid_list::WaitQueues;
 
 /// The condition variables, with numbers from 0 to 255, and the threads that wait for each, in order of arrival and
 /// all with one mutex (POSIX.1). A thread waits for one at most. Their memory is taken when the table is made.
@@ -84,7 +85,7 @@ impl Conds {
         ensures mutex { result ≡ cond_mutex (conditions self.now c) }
         ensures empty { IsNone result ↔ (cond_waiters (conditions self.now c) ≡ []) }
     {
-        if self.waiters.threads(c).is_empty() {
+        if self.waiters.is_empty(c) {
             None
         } else {
             self.mutexes[c as usize]
@@ -134,10 +135,10 @@ impl Conds {
         self.some_uses(m)
     }
 
-    /// The threads that wait for a condition, in order of arrival.
-    pub fn waiters(&self, c: u32) -> &[Tid]
+    /// The numbers of the threads that wait for a condition, in order of arrival. It costs a step for each.
+    pub fn waiters(&self, c: u32) -> ArrayVec<u32, 64>
         requires { IsSome (conditions self.now c) }
-        ensures queue { result.now ≡ cond_waiters (conditions self.now c) }
+        ensures queue { result.items ≡ cond_waiters (conditions self.now c) }
         ensures apart { AreApart (waiting (conditions self.now)) }
     {
         self.waiters.threads(c)

@@ -60,7 +60,7 @@ fn waiters(table: &Conds, c: u32) -> [u32; 3] {
     let mut numbers = [0; 3];
     if table.exists(c) {
         for (number, t) in numbers.iter_mut().zip(table.waiters(c).iter()) {
-            *number = t.number();
+            *number = *t;
         }
     }
     numbers

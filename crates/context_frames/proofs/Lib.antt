@@ -1,1 +1,1 @@
-mod StackLemmas
+mod ContextLemmas

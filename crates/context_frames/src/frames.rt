@@ -1,10 +1,10 @@
-ghost use Rattle.std.specs.Prelude.{◌≡◌, ◌==◌, ◌++◌, ◌<◌, ◌≤◌, ◌↔◌, [], ◌∷◌, not, length, IfOk, IsNone, replicate, if◌then◌else◌};
+ghost use Rattle.std.specs.Prelude.{◌≡◌, ◌==◌, ◌++◌, ◌<◌, ◌≤◌, ◌↔◌, [], ◌∷◌, not, length, IfOk, IsNone, if◌then◌else◌};
 ghost use Rattle.std.specs.Option.{option_map};
 ghost use Rattle.thread_base.specs.Maps.{put};
-ghost use Rattle.context_frames.specs.Contexts.{stack_of, saved_of, top_of, below_top, no_frames, zero_registers};
+ghost use Rattle.context_frames.specs.Contexts.{stack_of, saved_of, top_of, below_top, zero_registers};
 
 use crate::{Frame, FrameKind, Saved, ZERO};
-use arrayvec::ArrayVec;
+use link_arena::Stacks;
 use std::alloc::Global;
 use std::marker::Model;
 use thread_base::{NoMemory, Tid};
@@ -12,19 +12,22 @@ use thread_base::{NoMemory, Tid};
 /// The stacks of frames and the saved contexts of all threads. Their memory is taken when they are made.
 #[derive(Drop)]
 pub struct Frames {
-    stacks: Vec<ArrayVec<Frame, 32>>,
+    stacks: Stacks,
+    /// The frame of each node.
+    frames: Vec<Frame>,
     saved: Vec<Saved>,
 }
 
 impl Model for Frames {
     ghost use Rattle.std.specs.Prelude.{◌≡◌, length};
+    ghost use Rattle.link_arena.specs.Stacking.{stack_at, HavePlaces};
     ghost use Rattle.context_frames.specs.Contexts.{Contexts};
 
     ghost Value = { Contexts };
 
-    ghost view = { λ f. record { stacks = f.stacks.items; saved = f.saved.items } };
+    ghost view = { λ f. record { lists = f.stacks; frames = f.frames.items; saved = f.saved.items } };
 
-    ghost invariant = { λ f. (length f.stacks.items ≡ 64) × (length f.saved.items ≡ 64) };
+    ghost invariant = { λ f. HavePlaces f.frames.items (stack_at f.stacks) × (length f.saved.items ≡ 64) };
 }
 
 #[tactic(auto, unfolding(crate::specs::Contexts::stack_of, crate::specs::Contexts::saved_of), using(thread_base::proofs::MapLemmas::numbered_set, thread_base::proofs::MapLemmas::numbered_read))]
@@ -34,11 +37,16 @@ impl Frames {
         ensures frames { IfOk result (λ f. stack_of f ≡ (λ _. [])) }
         ensures saved { IfOk result (λ f. saved_of f ≡ (λ _. Saved.Fresh zero_registers)) }
     {
-        let stacks = empty_stacks(alloc)?;
+        let stacks = Stacks::new(alloc)?;
+        let frames = blanks(alloc)?;
         let Ok(saved) = Vec::from_slice(alloc, &[Saved::Fresh(ZERO); 64]) else {
             return Err(NoMemory);
         };
-        Ok(Frames { stacks, saved })
+        Ok(Frames {
+            stacks,
+            frames,
+            saved,
+        })
     }
 
     /// Pushes a frame on a thread's stack; false, and nothing changes, exactly where the thread has 32 frames.
@@ -48,11 +56,10 @@ impl Frames {
             ≡ (if result then put (stack_of self.old) t (stack_of self.old t ++ f ∷ []) else stack_of self.old) }
         ensures saved { saved_of self.new ≡ saved_of self.old }
     {
-        let stack = &mut self.stacks[t.index()];
-        if stack.is_full() {
+        let Some(node) = self.stacks.push(t) else {
             return false;
-        }
-        stack.push(f);
+        };
+        self.frames[node as usize] = f;
         true
     }
 
@@ -63,7 +70,8 @@ impl Frames {
         ensures frames { stack_of self.new ≡ put (stack_of self.old) t (below_top (stack_of self.old t)) }
         ensures saved { saved_of self.new ≡ saved_of self.old }
     {
-        self.stacks[t.index()].pop()
+        let node = self.stacks.pop(t)?;
+        Some(self.frames[node as usize])
     }
 
     /// What the frame on top of a thread's stack is for; None exactly where the stack is empty.
@@ -71,7 +79,8 @@ impl Frames {
         ensures top { result ≡ option_map (λ f. f.kind) (top_of (stack_of self.now t)) }
         ensures empty { IsNone result ↔ (stack_of self.now t ≡ []) }
     {
-        self.stacks[t.index()].last().map(|f| f.kind)
+        let node = self.stacks.top(t)?;
+        Some(self.frames[node as usize].kind)
     }
 
     /// How many frames a thread has, at most 32.
@@ -79,7 +88,7 @@ impl Frames {
         ensures frames { result ≡ length (stack_of self.now t) }
         ensures limit { result ≤ 32 }
     {
-        self.stacks[t.index()].len() as u32
+        self.stacks.depth(t)
     }
 
     /// Takes all of a thread's frames off.
@@ -87,7 +96,7 @@ impl Frames {
         ensures frames { stack_of self.new ≡ put (stack_of self.old) t [] }
         ensures saved { saved_of self.new ≡ saved_of self.old }
     {
-        self.stacks[t.index()].clear();
+        self.stacks.clear(t);
     }
 
     /// Saves how a thread goes on, in place of what was saved before.
@@ -106,17 +115,17 @@ impl Frames {
     }
 }
 
-/// A stack for each thread, none of which has a frame.
-fn empty_stacks(alloc: Global) -> Result<Vec<ArrayVec<Frame, 32>>, NoMemory>
-    ensures { IfOk result (λ v. v.items ≡ replicate 64 no_frames) }
+/// A blank frame for each node.
+fn blanks(alloc: Global) -> Result<Vec<Frame>, NoMemory>
+    ensures { IfOk result (λ v. length v.items ≡ 2048) }
 {
-    let Ok(mut stacks) = Vec::with_capacity(alloc, 64) else {
+    let Ok(mut frames) = Vec::with_capacity(alloc, 2048) else {
         return Err(NoMemory);
     };
-    for index in 0..64u32 {
-        if stacks.push(ArrayVec::new()).is_err() {
+    for index in 0..2048u32 {
+        if frames.push(Frame::default()).is_err() {
             return Err(NoMemory);
         }
     }
-    Ok(stacks)
+    Ok(frames)
 }

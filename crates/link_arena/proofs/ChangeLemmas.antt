@@ -1,44 +1,20 @@
 -- What the fields show, and what each change of them makes of it.
-use Rattle.std.proofs.Common.{◌≡◌, ◌∙◌, refl, sym, ap, subst, arith, inl, inr, ℕ, ◌+◌, ◌-◌, ◌<◌, ◌≤◌, if◌then◌else◌, nat_lt, true, false, List, [], ◌∷◌, ◌++◌, Option, Some, None, IsSome, IsNone, IfSome, IfNone, length, suc, set, map, replicate, length-set, get_or-set_same, get_or-set_other}
-use Rattle.std.proofs.lemmas.Bool.{eq-eqb, ne_eqb, cases_eq, cases_lt, cases_Bool}
+use Rattle.std.proofs.Common.{◌≡◌, ◌∙◌, refl, sym, ap, subst, arith, inl, inr, ℕ, ◌+◌, ◌-◌, ◌<◌, ◌≤◌, if◌then◌else◌, nat_lt, true, false, List, [], ◌∷◌, ◌++◌, Option, Some, None, IsSome, IsNone, IfSome, IfNone, length, set, map, replicate, length-set, get_or-set_same, get_or-set_other}
+use Rattle.std.proofs.lemmas.Bool.{eq-eqb, ne_eqb, cases_eq, cases_lt}
 use Rattle.std.proofs.lemmas.Bool.Decides.{nat_tests}
-use Rattle.std.proofs.lemmas.List.{get_or_past, get_or-map, length-map, length-replicate, get_or-replicate}
+use Rattle.std.proofs.lemmas.List.{get_or_past, length-map, length-replicate, get_or-replicate}
 use Rattle.thread_base.specs.Orders.{is_in, without}
 use Rattle.thread_base.proofs.OrderLemmas.{without_absent}
-use Rattle.link_arena.specs.Chains.{StandsOnce, NodeLists, AreApart, list_of, head_in, one_more, next_in, first_of, pushed, inserted, unlinked, with_before}
+use Rattle.link_arena.specs.Chains.{StandsOnce, NodeLists, AreApart, list_of, head_in, next_in, first_of, pushed, inserted, unlinked, with_before}
 use Rattle.link_arena.specs.Rings.{kept_at, home_at, node_of, is_for, place_after, place_before, shown, AreLinked, Keeps, first_home}
 use Rattle.link_arena.proofs.RingLemmas.{placed, placed_inside, placed_last, none_before}
 use Rattle.link_arena.proofs.LinkLemmas.{within, end_home, before_home, after_home, stands_in, head_is, next_is, next_is_none, first_is, shown_is, apart_of, linked, not_for}
+use Rattle.link_arena.proofs.ListLemmas.{map_at, found_in}
 use Rattle.link_arena.proofs.UnlinkLemmas.{unlinked_are}
-
-map_at : (f : List ℕ → List ℕ) (lists : List (List ℕ)) (k : ℕ) → f [] ≡ [] → list_of (map f lists) k ≡ f (list_of lists k)
-map_at f lists k none =
-    elim (cases_lt k (length lists)) [
-      | inl low ↦ get_or-map f lists k [] [] low
-      | inr past ↦ get_or_past (map f lists) k [] (omega (arith, length-map lists f)) ∙ sym none ∙ sym (ap f (get_or_past lists k [] past))
-    ]
 
 some_head : (o : Option ℕ) → IsSome o → (h : ℕ) × (o ≡ Some h)
 some_head None e = absurd (let f : false ≡ true = e in cc)
 some_head (Some h) e = (h, refl)
-
-one_less : (o : Option ℕ) (h : ℕ) → one_more o ≡ Some h → (k : ℕ) × ((o ≡ Some k) × (h ≡ suc k))
-one_less None h e = absurd (let f : None ≡ Some h = e in cc)
-one_less (Some k) h e = (k, (refl, (let f : Some (suc k) ≡ Some h = e in cc)))
-
-found_in : (lists : List (List ℕ)) (x h : ℕ) → head_in lists x ≡ Some h → is_in x (list_of lists h) ≡ true
-found_in [] x h e = let f : None ≡ Some h = e in cc
-found_in (l ∷ ls) x h e =
-    elim (cases_Bool (is_in x l)) [
-      | inl is ↦
-          (let first : head_in (l ∷ ls) x ≡ Some 0 = rw is refl in
-          let same : 0 ≡ h = (let f : Some 0 ≡ Some h = sym first ∙ e in cc) in
-          subst (λ k. is_in x (list_of (l ∷ ls) k) ≡ true) same is)
-      | inr un ↦
-          (let later : head_in (l ∷ ls) x ≡ one_more (head_in ls x) = rw un refl in
-          let less = one_less (head_in ls x) h (sym later ∙ e) in
-          subst (λ k. is_in x (list_of (l ∷ ls) k) ≡ true) (sym less.1.1) (found_in ls x less.0 less.1.0))
-    ]
 
 module _ {nodes heads : ℕ} {next previous : List ℕ} {homes : List (Option ℕ)} (keeps : Keeps nodes heads next previous homes) {links : NodeLists} (is : shown nodes heads next ≡ links) where
   abbrev lists : List (List ℕ)

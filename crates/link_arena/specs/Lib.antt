@@ -1,2 +1,4 @@
 pub mod Chains
 pub mod Rings
+pub mod Stacking
+pub mod Waiting

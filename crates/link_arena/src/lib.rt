@@ -2,8 +2,10 @@
 #![tactic(auto)]
 
 mod rings;
+mod stacks;
 #[cfg(test)]
 mod tests;
+mod waits;
 
 ghost use Rattle.std.specs.Prelude.{◌≡◌, ◌<◌, ◌≤◌, ◌↔◌, [], ℕ, true, false, None, IfOk, IfSome, IfNone, IsNone, IsSome, length, replicate};
 ghost use Rattle.thread_base.specs.Orders.{is_in};
@@ -11,9 +13,11 @@ ghost use Rattle.link_arena.specs.Chains.{NodeLists, list_of, head_in, first_of,
 ghost use Rattle.link_arena.specs.Rings.{node_of};
 
 use rings::Rings;
+pub use stacks::Stacks;
 use std::alloc::Global;
 use std::marker::Model;
 use thread_base::NoMemory;
+pub use waits::{WaitQueues, better};
 
 /// Lists of nodes, one for each head, each linked in both ways. A node stands in one list at most, and each
 /// operation takes constant time. All memory is taken when they are made.

@@ -1,7 +1,8 @@
 ghost use Rattle.std.specs.Prelude.{◌≡◌, ◌<◌, length};
 
-use crate::Links;
+use crate::{Links, Stacks, WaitQueues};
 use std::test::Fail;
+use thread_base::Tid;
 
 /// One change of the lists.
 #[derive(Clone, Copy, Debug, PartialEq, Eq)]
@@ -111,5 +112,92 @@ fn one_list_at_a_time(rt: HostRuntime) -> Result<(), Fail> {
     ] {
         assert!(rt; !make(&mut links, change), "{change:?}");
     }
+    Ok(())
+}
+
+/// The numbers of the first threads of a list, and 0 after the last.
+fn first_numbers(queues: &WaitQueues, n: u32) -> [u32; 4] {
+    let mut numbers = [0; 4];
+    if n < 256 {
+        for (number, t) in numbers.iter_mut().zip(queues.threads(n).iter()) {
+            *number = *t;
+        }
+    }
+    numbers
+}
+
+/// Puts a thread after all others of a list, where it stands in none; whether it was put.
+fn wait(queues: &mut WaitQueues, n: u32, number: u32) -> bool {
+    let Some(t) = Tid::new(number) else {
+        return false;
+    };
+    if n >= 256 || queues.awaited(t).is_some() {
+        return false;
+    }
+    queues.push(n, t);
+    true
+}
+
+#[test]
+fn one_queue_at_a_time(rt: HostRuntime) -> Result<(), Fail> {
+    let mut queues = WaitQueues::new(rt.alloc())?;
+    for (n, number) in [(0, 9), (255, 1), (0, 64), (0, 33), (255, 2)] {
+        assert!(rt; wait(&mut queues, n, number), "thread {number}");
+        assert!(rt; !wait(&mut queues, 7, number), "thread {number} again");
+    }
+    assert_eq!(rt; first_numbers(&queues, 0), [9, 64, 33, 0]);
+    assert_eq!(rt; first_numbers(&queues, 255), [1, 2, 0, 0]);
+    assert_eq!(rt; [queues.is_empty(0), queues.is_empty(7)], [false, true]);
+    for (number, left) in [(64, [9, 33, 0, 0]), (2, [9, 33, 0, 0]), (9, [33, 0, 0, 0])] {
+        let t = Tid::new(number).ok_or("number")?;
+        queues.remove(t);
+        assert_eq!(rt; queues.awaited(t), None);
+        assert_eq!(rt; first_numbers(&queues, 0), left, "without {number}");
+    }
+    assert!(rt; wait(&mut queues, 7, 9));
+    assert_eq!(rt; queues.awaited(Tid::new(9).ok_or("number")?), Some(7));
+    assert_eq!(rt; first_numbers(&queues, 255), [1, 0, 0, 0]);
+    Ok(())
+}
+
+#[test]
+fn earliest_of_the_greatest(rt: HostRuntime) -> Result<(), Fail> {
+    let mut queues = WaitQueues::new(rt.alloc())?;
+    let mut levels = [0u8; 64];
+    assert_eq!(rt; queues.best(3, &levels), None);
+    for (number, level) in [(5, 3), (2, 3), (64, 31), (7, 31), (1, 0)] {
+        let t = Tid::new(number).ok_or("number")?;
+        levels[t.index()] = level;
+        assert!(rt; wait(&mut queues, 3, number), "thread {number}");
+    }
+    for number in [64, 7, 5, 2, 1] {
+        let t = Tid::new(number).ok_or("number")?;
+        assert_eq!(rt; queues.best(3, &levels), Some(t));
+        queues.remove(t);
+    }
+    assert_eq!(rt; queues.best(3, &levels), None);
+    Ok(())
+}
+
+#[test]
+fn stacks_of_32(rt: HostRuntime) -> Result<(), Fail> {
+    let mut stacks = Stacks::new(rt.alloc())?;
+    let t = Tid::new(7).ok_or("number")?;
+    let other = Tid::new(64).ok_or("number")?;
+    assert_eq!(rt; (stacks.pop(t), stacks.top(t)), (None, None));
+    let below = stacks.push(other);
+    for depth in 0..32u32 {
+        assert_eq!(rt; stacks.depth(t), depth);
+        let node = stacks.push(t);
+        assert!(rt; node.is_some(), "{depth}");
+        assert_eq!(rt; stacks.top(t), node);
+    }
+    assert_eq!(rt; stacks.push(t), None);
+    let top = stacks.top(t);
+    assert_eq!(rt; stacks.pop(t), top);
+    assert_eq!(rt; stacks.push(t), top);
+    stacks.clear(t);
+    assert_eq!(rt; (stacks.depth(t), stacks.top(t)), (0, None));
+    assert_eq!(rt; (stacks.depth(other), stacks.top(other)), (1, below));
     Ok(())
 }

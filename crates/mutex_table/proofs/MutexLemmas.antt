@@ -7,7 +7,7 @@ use Rattle.thread_base.specs.declared.mutex.Holder.{Holder}
 use Rattle.std.specs.List.{range_with_len}
 use Rattle.thread_base.proofs.SearchLemmas.{find_none, in_range}
 use Rattle.thread_base.proofs.MapLemmas.{put_is, put_same, put_other, first_put, second_put}
-use Rattle.tid_list.specs.Waiting.{queue_of}
+use Rattle.link_arena.specs.Waiting.{queue_of}
 use Rattle.mutex_table.specs.declared.MutexState.{MutexState}
 use Rattle.thread_base.specs.Objects.{waiters_in, with_holder, with_waiters, is_owned_by}
 use Rattle.mutex_table.specs.MutexMap.{Table, mutex_of, mutexes, state_of, waiting, AreSound}

@@ -1,7 +1,7 @@
 -- What a table of mutexes shows: for each number nothing, or a mutex.
 use Rattle.std.specs.Prelude.{◌≡◌, ℕ, List, [], Option, Some, None, IsNone, length, slice_index_or}
 use Rattle.thread_base.specs.Objects.{Mutex, waiters_in}
-use Rattle.tid_list.specs.Waiting.{queue_of}
+use Rattle.link_arena.specs.Waiting.{queue_of}
 use Rattle.mutex_table.specs.declared.MutexState.{MutexState}
 
 -- what the table keeps: each mutex but for its waiters, and the waiters of each number (this project's own)

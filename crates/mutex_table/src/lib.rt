@@ -10,15 +10,16 @@ ghost use Rattle.std.specs.Option.{option_map};
 ghost use Rattle.thread_base.specs.Maps.{put, numbered};
 ghost use Rattle.thread_base.specs.Orders.{is_in, without};
 ghost use Rattle.thread_base.specs.Priority.{first_greatest};
-ghost use Rattle.tid_list.specs.Waiting.{StandsInNone, StandsInOne, AreApart};
+ghost use Rattle.link_arena.specs.Waiting.{StandsInNone, StandsInOne, AreApart};
 ghost use Rattle.thread_base.specs.Objects.{waiters_in, free_mutex, with_holder, with_waiters, is_owned_by};
 ghost use Rattle.mutex_table.specs.MutexMap.{mutexes, state_of, waiting};
 
+use arrayvec::ArrayVec;
+use link_arena::WaitQueues;
 use std::alloc::Global;
 use std::marker::Model;
 use thread_base::{NoMemory, Tid};
 pub use thread_base::{Holder, Kind, Protocol};
-use tid_list::WaitQueues;
 
 /// A mutex but for its waiters: what it does where its owner locks it again, what it does to its owner's priority,
 /// and who has it (POSIX.1 mutexes).
@@ -181,10 +182,10 @@ impl Mutexes {
         self.waiters.best(m, eff)
     }
 
-    /// The threads that wait for a mutex, in order of arrival.
-    pub fn waiters(&self, m: u32) -> &[Tid]
+    /// The numbers of the threads that wait for a mutex, in order of arrival. It costs a step for each.
+    pub fn waiters(&self, m: u32) -> ArrayVec<u32, 64>
         requires { IsSome (mutexes self.now m) }
-        ensures queue { result.now ≡ waiters_in (mutexes self.now m) }
+        ensures queue { result.items ≡ waiters_in (mutexes self.now m) }
         ensures apart { AreApart (waiting (mutexes self.now)) }
     {
         self.waiters.threads(m)

@@ -51,7 +51,7 @@ fn waiters(table: &Mutexes, m: u32) -> [u32; 3] {
     let mut numbers = [0; 3];
     if table.exists(m) {
         for (number, t) in numbers.iter_mut().zip(table.waiters(m).iter()) {
-            *number = t.number();
+            *number = *t;
         }
     }
     numbers

@@ -1,15 +1,20 @@
 //! The ready list: the threads that can run, in order, and the choice among them.
 #![tactic(auto)]
 
+mod bitmap;
+mod levels;
+mod numbers;
 mod plain;
 #[cfg(test)]
 mod tests;
+mod tids;
 
 ghost use Rattle.std.specs.Prelude.{◌≡◌, ◌++◌, ◌↔◌, [], ◌∷◌, ℕ, List, true, false, IfSome, IsNone};
 ghost use Rattle.thread_base.specs.Maps.{put};
 ghost use Rattle.thread_base.specs.Orders.{is_in, without, IsOrder};
 ghost use Rattle.thread_base.specs.Priority.{first_greatest};
 
+pub use bitmap::BitmapReady;
 pub use plain::PlainReady;
 use thread_base::{Prio, Tid};
 

@@ -3,10 +3,10 @@ ghost use Rattle.thread_base.specs.Maps.{put};
 ghost use Rattle.ready_queues.specs.Queue.{level_of};
 
 use crate::Ready;
+use crate::tids::TidList;
 use std::alloc::Global;
 use std::marker::Model;
 use thread_base::{NoMemory, Prio, Tid};
-use tid_list::TidList;
 
 /// The ready list as one plain list, which `chosen` looks through. Its memory is taken when it is made.
 #[derive(Drop)]

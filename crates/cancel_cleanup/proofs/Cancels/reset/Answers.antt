@@ -1,14 +1,18 @@
-use Rattle.std.proofs.Common.{◌∙◌, ap, arith, set, []}
+use Rattle.std.proofs.Common.{◌∙◌, ap, [], length-set}
 use Rattle.thread_base.specs.Maps.{put}
+use Rattle.link_arena.specs.Stacking.{stack_at}
+use Rattle.link_arena.proofs.KeptLemmas.{kept_change, change_places, none_in}
 use Rattle.cancel_cleanup.specs.Cancellations.{cleanups_of, first_flags}
-use Rattle.cancel_cleanup.proofs.StackLemmas.{stack_changed, cleanups_alone}
 use Rattle.cancel_cleanup.proofs.Cancels.reset.Goals as goal
 
+pub invariant_of-self : goal.invariant_of-self
+invariant_of-self c = (
+  length-set c.self.inside.flags c.index.result first_flags ∙ c.self.invariant.0,
+  change_places c.self.inside.records.items (stack_at c.self.inside.stacks) (stack_at c.clear.new.self) c.self.invariant.1 c.args.t [] c.clear.ensures (none_in (stack_at c.self.inside.stacks c.args.t)),
+)
+
 pub returns-clause-cleanups : goal.returns-clause-cleanups
+unfolding cleanups_of
 returns-clause-cleanups c =
-    stack_changed (record { flags = set c.self.inside.flags c.index.result first_flags; stacks = c.self.inside.stacks.items }) c.index-2.result c.args.t
-    c.index_mut.result.now c.clear.new.self (λ cleanups. [])
-    c.index_mut.ensures.value c.index-2.ensures.value (omega (arith, c.self.invariant.1)) c.clear.ensures
-    ∙ ap (λ m. put m c.args.t [])
-    (cleanups_alone (set c.self.inside.flags c.index.result first_flags) c.self.inside.flags c.self.inside.stacks.items
-    ∙ ap cleanups_of c.self.view_is)
+    kept_change c.self.inside.records.items (stack_at c.self.inside.stacks) (stack_at c.clear.new.self) c.self.invariant.1 c.args.t [] c.clear.ensures (none_in (stack_at c.self.inside.stacks c.args.t))
+    ∙ ap (λ v. put (cleanups_of v) c.args.t []) c.self.view_is

@@ -1,6 +1,6 @@
 use Rattle.std.proofs.Common.{◌≡◌, subst, true, ℕ, List, IfSome, IfNone}
 use Rattle.thread_base.specs.Orders.{is_in}
-use Rattle.tid_list.specs.Waiting.{StandsInNone}
+use Rattle.link_arena.specs.Waiting.{StandsInNone}
 use Rattle.cond_table.proofs.ConditionLemmas.{seen}
 use Rattle.cond_table.proofs.Conds.awaited.Goals as goal
 

@@ -1,7 +1,7 @@
 use Rattle.std.proofs.Common.{◌≡◌, ◌∙◌, ap, sym, subst, arith, Some, IsSome, set}
 use Rattle.std.specs.Option.{ForSome}
 use Rattle.thread_base.specs.Maps.{put}
-use Rattle.tid_list.specs.Waiting.{StandsInNone, AreApart}
+use Rattle.link_arena.specs.Waiting.{StandsInNone, AreApart}
 use Rattle.thread_base.specs.Objects.{cond_mutex, entered}
 use Rattle.cond_table.specs.ConditionMap.{conditions}
 use Rattle.cond_table.proofs.ConditionLemmas.{within_shown, joined_set, sound_joined, waiting_is, seen}

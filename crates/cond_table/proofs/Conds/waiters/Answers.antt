@@ -1,5 +1,5 @@
 use Rattle.std.proofs.Common.{◌∙◌, ap, subst, arith, ℕ, List}
-use Rattle.tid_list.specs.Waiting.{AreApart}
+use Rattle.link_arena.specs.Waiting.{AreApart}
 use Rattle.cond_table.proofs.ConditionLemmas.{within_shown, seen}
 use Rattle.cond_table.proofs.Conds.waiters.Goals as goal
 

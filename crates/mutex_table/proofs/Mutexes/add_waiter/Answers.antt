@@ -1,6 +1,6 @@
 use Rattle.std.proofs.Common.{◌∙◌, ap, sym, subst, arith, [], ◌∷◌, ◌++◌, IsSome}
 use Rattle.thread_base.specs.Maps.{put}
-use Rattle.tid_list.specs.Waiting.{StandsInNone, AreApart}
+use Rattle.link_arena.specs.Waiting.{StandsInNone, AreApart}
 use Rattle.thread_base.specs.Objects.{with_waiters}
 use Rattle.mutex_table.specs.MutexMap.{mutexes}
 use Rattle.mutex_table.proofs.MutexLemmas.{within_shown, has_place, queue_set, sound_queue, waiting_is, seen}

@@ -1,6 +1,6 @@
 use Rattle.std.proofs.Common.{◌≡◌, subst, true, ℕ, List, IfSome, IfNone}
 use Rattle.thread_base.specs.Orders.{is_in}
-use Rattle.tid_list.specs.Waiting.{StandsInNone}
+use Rattle.link_arena.specs.Waiting.{StandsInNone}
 use Rattle.mutex_table.proofs.MutexLemmas.{seen}
 use Rattle.mutex_table.proofs.Mutexes.awaited.Goals as goal
 

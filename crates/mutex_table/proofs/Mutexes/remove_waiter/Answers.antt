@@ -1,7 +1,7 @@
 use Rattle.std.proofs.Common.{◌∙◌, ap, sym, subst, refl}
 use Rattle.thread_base.specs.Maps.{put}
 use Rattle.thread_base.specs.Orders.{is_in, without}
-use Rattle.tid_list.specs.Waiting.{AreApart}
+use Rattle.link_arena.specs.Waiting.{AreApart}
 use Rattle.thread_base.specs.Objects.{with_waiters}
 use Rattle.mutex_table.specs.MutexMap.{mutexes}
 use Rattle.mutex_table.proofs.MutexLemmas.{queue_set, sound_queue, waiting_is, seen}

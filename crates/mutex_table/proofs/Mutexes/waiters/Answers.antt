@@ -1,5 +1,5 @@
 use Rattle.std.proofs.Common.{◌∙◌, ap, subst, arith, ℕ, List}
-use Rattle.tid_list.specs.Waiting.{AreApart}
+use Rattle.link_arena.specs.Waiting.{AreApart}
 use Rattle.mutex_table.proofs.MutexLemmas.{within_shown, seen}
 use Rattle.mutex_table.proofs.Mutexes.waiters.Goals as goal
 

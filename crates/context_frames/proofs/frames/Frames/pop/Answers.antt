@@ -1,12 +1,45 @@
-use Rattle.std.proofs.Common.{◌∙◌, ap, arith}
+use Rattle.std.proofs.Common.{◌≡◌, ◌∙◌, sym, ap, subst, refl, arith, ℕ, List, [], ◌∷◌, ◌++◌, ◌<◌, ◌==◌, not, true, false, Option, Some, None, IsNone, IfNone, length, set, get_or, eqb}
 use Rattle.thread_base.specs.Maps.{put}
-use Rattle.context_frames.specs.Contexts.{stack_of, below_top}
-use Rattle.context_frames.proofs.StackLemmas.{stack_changed}
+use Rattle.link_arena.specs.Stacking.{stack_at, stacked, rest_of}
+use Rattle.link_arena.proofs.KeptLemmas.{kept_change, change_places, rest_in, stacked_last, stacked_rest, stacked_rest_none, has_last, no_last}
+use Rattle.context_frames.specs.Contexts.{stack_of, top_of, below_top}
 use Rattle.context_frames.proofs.frames.Frames.pop.Goals as goal
 
+pub invariant_of-self : goal.invariant_of-self
+invariant_of-self c = (change_places c.self.inside.frames.items (stack_at c.self.inside.stacks) (stack_at c.pop.new.self) c.self.invariant.0 c.args.t (rest_of (stack_at c.self.inside.stacks c.args.t)) c.pop.ensures.stacks (rest_in (stack_at c.self.inside.stacks c.args.t)), c.self.invariant.1)
+
+pub returns-in_err-node-clause-empty : goal.returns-in_err-node-clause-empty
+unfolding stack_of
+returns-in_err-node-clause-empty c =
+    let empty = no_last c.self.inside.frames.items (stack_at c.self.inside.stacks c.args.t) (sym c.in_err-node.ensures.top) ∙ refl in
+    (λ h. ap (λ v. stack_of v c.args.t) (sym c.self.view_is) ∙ empty, λ e. ap Rattle.std.proofs.Common.is_some c.from_residual.ensures)
+
+pub returns-in_err-node-clause-frames : goal.returns-in_err-node-clause-frames
+unfolding stack_of
+returns-in_err-node-clause-frames c =
+    kept_change c.self.inside.frames.items (stack_at c.self.inside.stacks) (stack_at c.pop.new.self) c.self.invariant.0 c.args.t (rest_of (stack_at c.self.inside.stacks c.args.t)) c.pop.ensures.stacks (rest_in (stack_at c.self.inside.stacks c.args.t))
+    ∙ ap (put (λ u. stacked c.self.inside.frames.items (stack_at c.self.inside.stacks u)) c.args.t) (stacked_rest_none c.self.inside.frames.items (stack_at c.self.inside.stacks c.args.t) (sym c.in_err-node.ensures.top))
+    ∙ ap (λ v. put (stack_of v) c.args.t (below_top (stack_of v c.args.t))) c.self.view_is
+
+pub invariant_of-self-2 : goal.invariant_of-self-2
+invariant_of-self-2 c = (change_places c.self.inside.frames.items (stack_at c.self.inside.stacks) (stack_at c.pop.new.self) c.self.invariant.0 c.args.t (rest_of (stack_at c.self.inside.stacks c.args.t)) c.pop.ensures.stacks (rest_in (stack_at c.self.inside.stacks c.args.t)), c.self.invariant.1)
+
+pub returns-clause-top : goal.returns-clause-top
+unfolding stack_of
+returns-clause-top c =
+    ap Some c.index.ensures
+    ∙ sym (stacked_last c.self.inside.frames.items (stack_at c.self.inside.stacks c.args.t) c.in_ok-node.node c.index.result.now (sym c.in_ok-node.ensures.top) (omega (arith, c.self.invariant.0.places, c.in_ok-node.ensures.range)))
+    ∙ ap (λ v. top_of (stack_of v c.args.t)) c.self.view_is
+
+pub returns-clause-empty : goal.returns-clause-empty
+unfolding stack_of
+returns-clause-empty c =
+    let last = stacked_last c.self.inside.frames.items (stack_at c.self.inside.stacks c.args.t) c.in_ok-node.node c.index.result.now (sym c.in_ok-node.ensures.top) (omega (arith, c.self.invariant.0.places, c.in_ok-node.ensures.range)) in
+    (λ h. absurd (let f : true ≡ false = h in cc), λ e. absurd (has_last (stacked c.self.inside.frames.items (stack_at c.self.inside.stacks c.args.t)) (get_or c.self.inside.frames.items c.in_ok-node.node c.index.result.now) last (ap (λ v. stack_of v c.args.t) c.self.view_is ∙ e)))
+
 pub returns-clause-frames : goal.returns-clause-frames
+unfolding stack_of
 returns-clause-frames c =
-    stack_changed (record { stacks = c.self.inside.stacks.items; saved = c.self.inside.saved.items }) c.index.result c.args.t
-    c.index_mut.result.now c.pop.new.self below_top
-    c.index_mut.ensures.value c.index.ensures.value (omega (arith, c.self.invariant.0)) c.pop.ensures.rest
+    kept_change c.self.inside.frames.items (stack_at c.self.inside.stacks) (stack_at c.pop.new.self) c.self.invariant.0 c.args.t (rest_of (stack_at c.self.inside.stacks c.args.t)) c.pop.ensures.stacks (rest_in (stack_at c.self.inside.stacks c.args.t))
+    ∙ ap (put (λ u. stacked c.self.inside.frames.items (stack_at c.self.inside.stacks u)) c.args.t) (stacked_rest c.self.inside.frames.items (stack_at c.self.inside.stacks c.args.t) c.in_ok-node.node c.index.result.now (sym c.in_ok-node.ensures.top) (omega (arith, c.self.invariant.0.places, c.in_ok-node.ensures.range)))
     ∙ ap (λ v. put (stack_of v) c.args.t (below_top (stack_of v c.args.t))) c.self.view_is

@@ -1,2 +1,0 @@
-mod ChoiceLemmas
-pub mod WaitingLemmas
