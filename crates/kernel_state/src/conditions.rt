@@ -86,7 +86,7 @@ impl<R: Ready + Drop> Tables<R> {
         requires exists { is_some ((view R.order self.now).conditions c) ≡ true }
         ensures { result.items ≡ in_order (eff (view R.order self.now)) (cond_waiters ((view R.order self.now).conditions c)) }
     {
-        sorted(self.conditions.waiters(c), &self.levels())
+        sorted(&self.conditions.waiters(c), &self.levels())
     }
 
     /// Whether the waiters of some condition wait with a mutex.
@@ -124,7 +124,7 @@ impl ConditionChange {
 }
 
 /// The numbers of threads by their levels, the greatest first and the earlier of equals.
-fn sorted(threads: &[Tid], levels: &[u8; 64]) -> ArrayVec<u32, 64>
+fn sorted(threads: &[u32], levels: &[u8; 64]) -> ArrayVec<u32, 64>
     requires { length threads.now < 65 }
     ensures { result.items ≡ in_order (numbered 0 levels.now) threads.now }
 {
@@ -132,7 +132,7 @@ fn sorted(threads: &[Tid], levels: &[u8; 64]) -> ArrayVec<u32, 64>
     let mut index = threads.len();
     while index > 0 {
         index -= 1;
-        order = inserted(&order, threads[index].number(), levels);
+        order = inserted(&order, threads[index], levels);
     }
     order
 }

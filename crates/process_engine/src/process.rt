@@ -19,7 +19,7 @@ use dispatcher::begin_delivery;
 use elf_image::EntryPoint;
 use kernel_state::{Kernel, Stepped, Tables};
 use posix_model::{Ending, Head, Report, Settings};
-use ready_queues::PlainReady;
+use ready_queues::BitmapReady;
 use replay_io::{Sink, SinkFailed};
 use rv_exec::Memory;
 use std::alloc::Global;
@@ -32,7 +32,7 @@ use trace_text::{Counts, Mode, put_end, put_report, put_run};
 /// tables show.
 #[derive(Drop)]
 pub struct Process {
-    kernel: Kernel<PlainReady>,
+    kernel: Kernel<BitmapReady>,
     instructions: u64,
     last: Option<Tid>,
     stage: Stage,
@@ -65,7 +65,7 @@ impl Process {
         ensures rules { IfOk result (λ p. p.rules ≡ rules_of settings) }
     {
         Ok(Process {
-            kernel: Kernel::new(alloc, PlainReady::new(alloc)?, mem, entry, settings)?,
+            kernel: Kernel::new(alloc, BitmapReady::new(alloc)?, mem, entry, settings)?,
             instructions: 0,
             last: None,
             stage: Stage::Paused,
@@ -251,7 +251,7 @@ impl Process {
     }
 
     /// The tables, where no move is in progress.
-    pub(crate) fn tables(&self) -> &Tables<PlainReady>
+    pub(crate) fn tables(&self) -> &Tables<BitmapReady>
         requires { (position_of self.now).telling ≡ None }
         ensures { view order result.now ≡ (moment_of self.now).state }
     {

@@ -15,7 +15,7 @@ waiters-requires g c = c.requires.exists
 
 pub sorted-requires : goal.sorted-requires
 unfolding view
-sorted-requires g c = subst (λ (ts : List ℕ). length ts < 65) (sym c.waiters.ensures.queue) (few_threads _ (c.requires.good.conditions c.args.c).order)
+sorted-requires g c = subst (λ (ts : List ℕ). length ts < 65) (sym (c.deref.ensures.0 ∙ c.waiters.ensures.queue)) (few_threads _ (c.requires.good.conditions c.args.c).order)
 
 pub returns : goal.returns
 unfolding view
@@ -24,6 +24,6 @@ returns g c =
     let levels : ℕ → ℕ = numbered 0 c.levels.result in
     let waiters : List ℕ = cond_waiters (s.conditions c.args.c) in
     c.sorted.ensures
-    ∙ ap (in_order levels) c.waiters.ensures.queue
+    ∙ ap (in_order levels) (c.deref.ensures.0 ∙ c.waiters.ensures.queue)
     ∙ in_order_agree levels (eff s) waiters
     (λ u h. (let range = within waiters u (c.requires.good.conditions c.args.c).order h in c.levels.ensures u range.0 range.1))
