@@ -1,5 +1,5 @@
 -- What is kept for the nodes of stacks, after a change of one stack.
-use Rattle.std.proofs.Common.{◌≡◌, ◌≢◌, ◌∙◌, refl, sym, ap, subst, arith, inl, inr, ℕ, ◌+◌, ◌-◌, ◌<◌, ◌==◌, not, true, false, is_some, Bool, List, [], ◌∷◌, ◌++◌, Option, Some, None, IsNone, IfSome, length, set, take, get_or, length-set, length-append, get_or-set_same, get_or-set_other, eqb, slice_get}
+use Rattle.std.proofs.Common.{◌≡◌, ◌≢◌, ◌∙◌, refl, sym, ap, arith, inl, inr, ℕ, ◌-◌, ◌<◌, true, false, List, [], ◌∷◌, ◌++◌, Some, None, length, set, take, get_or, length-set, length-append, get_or-set_same, get_or-set_other, eqb, slice_get}
 use Rattle.std.proofs.lemmas.Bool.{eq-eqb, ne_eqb, cases_eq, cases_Bool, or_left, or_right, or_parts}
 use Rattle.std.proofs.lemmas.List.{take_at, get_or_push}
 use Rattle.std.proofs.lemmas.Option.{slice_get-get_or}

@@ -1,8 +1,8 @@
 -- The bits of the levels: what they say of the lists after a change, and which list the greatest one names.
-use Rattle.std.proofs.Common.{◌≡◌, ◌≢◌, ◌∙◌, refl, sym, ap, subst, arith, inl, inr, ℕ, ◌-◌, ◌<◌, ◌≤◌, ◌^◌, ◌*◌, ◌/◌, ◌%◌, ◌==◌, ◌&&◌, if◌then◌else◌, Bool, true, false, is_some, is_none, List, [], ◌∷◌, ◌++◌, Option, Some, None, IfSome, length, suc, zero, not, set, map, replicate, length-set, get_or-set_same, get_or-set_other, bit_or, w32, eqb}
+use Rattle.std.proofs.Common.{◌≡◌, ◌≢◌, ◌∙◌, refl, sym, ap, subst, arith, inl, inr, ℕ, ◌-◌, ◌<◌, ◌≤◌, ◌^◌, ◌*◌, ◌/◌, ◌%◌, ◌==◌, ◌&&◌, if◌then◌else◌, Bool, true, false, is_some, is_none, List, [], ◌∷◌, ◌++◌, Option, Some, None, IfSome, length, suc, zero, not, map, replicate, length-set, bit_or, w32, eqb}
 use Rattle.std.specs.Int.{bit_at, leading_zeros}
 use Rattle.std.proofs.lemmas.Bool.{eq-eqb, ne_eqb, cases_eq, cases_lt, cases_Bool}
-use Rattle.std.proofs.lemmas.List.{get_or_past, length-map, length-replicate, get_or-replicate}
+use Rattle.std.proofs.lemmas.List.{get_or_past, length-map, length-replicate}
 use Rattle.std.proofs.lemmas.Nat.{leading_top}
 use Rattle.std.proofs.lemmas.Nat.Bits.{bit_at-zero, bit_at-suc, bit_at_above, bit_at_set_same, bit_at_set_other}
 use Rattle.thread_base.specs.Orders.{is_in, without}
