@@ -3,3 +3,4 @@ pub mod OrphanLemmas
 pub mod DropLemmas
 pub mod EndLemmas
 pub mod ReturnLemmas
+pub mod TestLemmas

@@ -34,6 +34,21 @@ fn leaving<R: Ready + Drop>(k: &Kernel<R>, t: Tid) -> Option<u32>
     k.tables().known(t).activity.leaving
 }
 
+/// A change of a thread.
+fn of_thread(t: Tid, change: ThreadChange) -> Change
+    ensures { result ≡ Change.Thread t change }
+{
+    Change::Thread { thread: t, change }
+}
+
+/// Notes that a thread goes back to its last frame.
+fn note_back<R: Ready + Drop>(k: &mut Kernel<R>, t: Tid)
+    requires { CanNote R.order k.old t }
+    ensures { HasNotedSome R.order k.old k.new (begun (set_thread (view R.order k.old.tables) t (left ((view R.order k.old.tables).threads t)))) }
+{
+    k.note_one(t, of_thread(t, ThreadChange::GoBack));
+}
+
 /// Begins a special return that leads the chosen thread back to its last frame.
 fn begin_back<R: Ready + Drop>(k: &mut Kernel<R>, t: Tid, which: Special)
     requires ready { CanBegin R.order k.old t }
@@ -42,8 +57,7 @@ fn begin_back<R: Ready + Drop>(k: &mut Kernel<R>, t: Tid, which: Special)
     ensures { IsBegun R.order k.old k.new (returned (view R.order k.old.tables) t which) }
 {
     let _sound = k.tables();
-    let change = ThreadChange::GoBack;
-    k.note_one(t, Change::Thread { thread: t, change });
+    note_back(k, t);
     k.begin_move(t, Head::Ret(which));
 }
 
@@ -66,8 +80,7 @@ fn note_exit<R: Ready + Drop>(k: &mut Kernel<R>, t: Tid)
     ensures { HasNotedSome R.order k.old k.new (begun (exit_with (view R.order k.old.tables) t (slice_index ((view R.order k.old.tables).threads t).registers.x 10))) }
 {
     let value = k.tables().known(t).regs.x[10];
-    let change = ThreadChange::StartExit { value };
-    k.note_one(t, Change::Thread { thread: t, change });
+    k.note_one(t, of_thread(t, ThreadChange::StartExit { value }));
 }
 
 /// Begins the return of the first routine of the chosen thread, which is not in its exit and has no frame: it starts its
