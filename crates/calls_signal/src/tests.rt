@@ -1,6 +1,11 @@
-//! Write, once for each answer, of thread 1 at the start of a run.
+//! Calls of thread 1 from the start of a run on, one after another: what each is answered, and what is told beside.
 
-ghost use Rattle.std.specs.Prelude.{◌≡◌, []};
+ghost use Rattle.std.specs.Prelude.{◌≡◌, ◌≤◌, ◌+◌, [], true, IfOk, length};
+ghost use Rattle.thread_base.specs.Numbers.{family_of};
+ghost use Rattle.posix_model.specs.Weights.{pending_in_all};
+ghost use Rattle.kernel_state.specs.Begun.{CanBegin, HasRoom};
+ghost use Rattle.kernel_state.specs.Kernels.{IsIdle};
+ghost use Rattle.kernel_state.specs.View.{view};
 
 use crate::{begin, step};
 use elf_image::EntryPoint;
@@ -10,51 +15,315 @@ use ready_queues::{PlainReady, Ready};
 use rv_exec::Memory;
 use std::alloc::Global;
 use std::test::Fail;
-use thread_base::{CallNo, NoMemory, Tid};
+use thread_base::{CallNo, Family, NoMemory, Sig, Tid};
 
-/// The reply to a write, and how many bytes its report tells.
-fn write<R: Ready + Drop>(
-    alloc: Global,
-    ready: R,
+/// What is told of a call beside its reply.
+#[derive(Clone, Copy, Debug, PartialEq, Eq)]
+enum Beside {
+    Nothing,
+    Wrote(u32),
+    Dropped(u64),
+    Killed(u64),
+}
+
+/// A call, its error and its value, and what is told beside.
+#[derive(Clone, Copy, Debug)]
+struct Row {
+    number: u32,
     args: [u32; 4],
-) -> Result<Option<(Reply, u32)>, NoMemory>
+    error: u32,
+    value: u32,
+    beside: Beside,
+}
+
+/// A call with its arguments that is answered a value, and of which nothing more is told.
+fn answered(number: u32, args: [u32; 4], value: u32) -> Row {
+    telling(number, args, value, Beside::Nothing)
+}
+
+/// A call with its arguments that is answered a value, and of which more is told.
+fn telling(number: u32, args: [u32; 4], value: u32, beside: Beside) -> Row {
+    Row {
+        number,
+        args,
+        error: 0,
+        value,
+        beside,
+    }
+}
+
+/// A call with its arguments that is refused.
+fn refused(number: u32, args: [u32; 4], error: u32) -> Row {
+    Row {
+        number,
+        args,
+        error,
+        value: 0,
+        beside: Beside::Nothing,
+    }
+}
+
+/// A kernel at the start of a run over 131,072 bytes: nothing pends.
+fn start<R: Ready + Drop>(alloc: Global, ready: R) -> Result<Kernel<R>, NoMemory>
     requires { R.order ready ≡ [] }
+    ensures none { IfOk result (λ k. pending_in_all (view R.order k.tables) ≤ 0) }
+    ensures ready { IfOk result (λ k. CanBegin R.order k 1) }
 {
     let settings = Settings {
         budget: 10,
         quantum: 4,
     };
     let memory = Memory::new(alloc, 131_072)?;
-    let mut k = Kernel::new(alloc, ready, memory, EntryPoint(0x10000), settings)?;
-    match CallNo::new(64) {
-        None => Ok(None),
-        Some(number) => {
-            begin(&mut k, Tid::at(0), number, args);
-            Ok(written_by(&k.finish()))
-        }
-    }
+    Kernel::new(alloc, ready, memory, EntryPoint(0x10000), settings)
 }
 
-/// The reply of a call, and how many bytes a report tells.
-fn written_by(report: &Report) -> Option<(Reply, u32)> {
-    match report.head {
-        Head::Call { reply, .. } => Some((reply, report.out_len)),
+/// What a call of the thread that runs is answered, and what is told beside; None where the process is over, nobody
+/// runs, or the number is not of this family.
+fn call<R: Ready + Drop>(k: &mut Kernel<R>, number: u32, args: [u32; 4]) -> Option<(Reply, Beside)>
+    requires idle { IsIdle k.old }
+    requires few { HasRoom (view R.order k.old.tables) }
+    ensures idle { IsIdle k.new }
+    ensures more { pending_in_all (view R.order k.new.tables) ≤ pending_in_all (view R.order k.old.tables) + 1 }
+{
+    let number = CallNo::new(number)?;
+    let t = k.chosen()?;
+    if k.tables().over().is_some() {
+        return None;
+    }
+    match number.family() {
+        Family::Signals => {
+            begin(k, t, number, args);
+            told_by(&k.finish())
+        }
         _ => None,
     }
 }
 
+/// The reply of a call, and what its report tells beside.
+fn told_by(report: &Report) -> Option<(Reply, Beside)> {
+    match report.head {
+        Head::Call { reply, .. } => Some((reply, told_beside(report))),
+        _ => None,
+    }
+}
+
+/// What a report tells beside its head.
+fn told_beside(report: &Report) -> Beside {
+    if report.out_len != 0 {
+        return Beside::Wrote(report.out_len);
+    }
+    if report.took == 2 {
+        return Beside::Killed(report.took_count);
+    }
+    for count in &report.drops {
+        if *count != 0 {
+            return Beside::Dropped(*count);
+        }
+    }
+    Beside::Nothing
+}
+
+/// The index of the first of some calls in a row that is answered otherwise; None where each is answered so.
+fn first_other<R: Ready + Drop>(k: &mut Kernel<R>, rows: &[Row]) -> Option<usize>
+    requires idle { IsIdle k.old }
+    requires none { pending_in_all (view R.order k.old.tables) ≤ 0 }
+    requires short { length rows.now ≤ 100 }
+    ensures idle { IsIdle k.new }
+    ensures few { pending_in_all (view R.order k.new.tables) ≤ 100 }
+{
+    let mut index = 0;
+    for row in rows {
+        let wanted = Some((Reply::Values(row.error, row.value), row.beside));
+        if call(k, row.number, row.args) != wanted {
+            return Some(index);
+        }
+        index += 1;
+    }
+    None
+}
+
+/// How many small changes a call of thread 1 makes at the start of a run, 2 for more than one.
+fn small_changes<R: Ready + Drop>(
+    alloc: Global,
+    ready: R,
+    number: u32,
+    args: [u32; 4],
+) -> Result<u32, NoMemory>
+    requires empty { R.order ready ≡ [] }
+    requires here { family_of number ≡ Family.Signals }
+{
+    let mut k = start(alloc, ready)?;
+    let Some(number) = CallNo::new(number) else {
+        return Ok(0);
+    };
+    begin(&mut k, Tid::at(0), number, args);
+    match step(&mut k) {
+        Stepped::More => Ok(2),
+        Stepped::Exit(_) => Ok(1),
+    }
+}
+
 #[test]
-fn writes_and_refusals(rt: HostRuntime) -> Result<(), Fail> {
+fn writes(rt: HostRuntime) -> Result<(), Fail> {
     let alloc = rt.alloc();
-    let two = write(alloc, PlainReady::new(alloc)?, [1, 0x10000, 2, 0])?;
-    assert_eq!(rt; two, Some((Reply::Values(0, 2), 2)));
-    let none = write(alloc, PlainReady::new(alloc)?, [2, 4, 0, 0])?;
-    assert_eq!(rt; none, Some((Reply::Values(0, 0), 0)));
-    let most = write(alloc, PlainReady::new(alloc)?, [1, 0x10000, 70_000, 0])?;
-    assert_eq!(rt; most, Some((Reply::Values(0, 65_536), 65_536)));
-    let input = write(alloc, PlainReady::new(alloc)?, [0, 0x10000, 2, 0])?;
-    assert_eq!(rt; input, Some((Reply::Values(9, 0), 0)));
-    let outside = write(alloc, PlainReady::new(alloc)?, [1, 4, 1, 0])?;
-    assert_eq!(rt; outside, Some((Reply::Values(14, 0), 0)));
+    let mut k = start(alloc, PlainReady::new(alloc)?)?;
+    let rows = [
+        telling(64, [1, 0x10000, 2, 0], 2, Beside::Wrote(2)),
+        answered(64, [2, 4, 0, 0], 0),
+        telling(64, [1, 0x10000, 70_000, 0], 65_536, Beside::Wrote(65_536)),
+        refused(64, [0, 4, 1, 0], 9),
+        refused(64, [3, 0x10000, 2, 0], 9),
+        refused(64, [1, 4, 1, 0], 14),
+    ];
+    assert_eq!(rt; first_other(&mut k, &rows), None);
+    Ok(())
+}
+
+#[test]
+fn actions(rt: HostRuntime) -> Result<(), Fail> {
+    let alloc = rt.alloc();
+    let mut k = start(alloc, PlainReady::new(alloc)?)?;
+    let rows = [
+        answered(286, [10, 0x10104, 0x1400, 0], 0),
+        answered(286, [10, 0xffff_fffc, 0, 0], 0x10104),
+        answered(286, [10, 0, 0, 0], 0xffff_fffc),
+        answered(286, [10, 1, 0, 0], 0),
+        answered(286, [10, 4, 0, 0], 1),
+        answered(286, [1, 1, 0, 0], 0),
+        answered(286, [31, 1, 0, 0], 0),
+        refused(286, [0, 1, 0, 0], 22),
+        refused(286, [9, 1, 0, 0], 22),
+        refused(286, [18, 1, 0, 0], 22),
+        refused(286, [22, 1, 0, 0], 22),
+        refused(286, [32, 1, 0, 0], 22),
+        refused(286, [10, 2, 0, 0], 22),
+        refused(286, [10, 5, 0, 0], 22),
+        answered(286, [10, 4, 0, 0], 4),
+    ];
+    assert_eq!(rt; first_other(&mut k, &rows), None);
+    Ok(())
+}
+
+#[test]
+fn masks(rt: HostRuntime) -> Result<(), Fail> {
+    let alloc = rt.alloc();
+    let mut k = start(alloc, PlainReady::new(alloc)?)?;
+    let rows = [
+        answered(287, [0, 0x1400, 0, 0], 0),
+        answered(287, [0, 0xa00, 0, 0], 0x1400),
+        answered(287, [1, 0x600, 0, 0], 0x1c00),
+        answered(287, [2, 0xffff_ffff, 0, 0], 0x1800),
+        refused(287, [3, 0, 0, 0], 22),
+        refused(287, [0xffff_ffff, 0, 0, 0], 22),
+        answered(287, [2, 0, 0, 0], 0xff83_fdfe),
+        answered(287, [0, 0, 0, 0], 0),
+    ];
+    assert_eq!(rt; first_other(&mut k, &rows), None);
+    Ok(())
+}
+
+#[test]
+fn signals_to_a_thread(rt: HostRuntime) -> Result<(), Fail> {
+    let alloc = rt.alloc();
+    let mut k = start(alloc, PlainReady::new(alloc)?)?;
+    let rows = [
+        answered(290, [1, 0, 0, 0], 0),
+        answered(290, [1, 10, 0, 0], 0),
+        answered(290, [1, 10, 0, 0], 0),
+        telling(290, [1, 17, 0, 0], 0, Beside::Dropped(1)),
+        refused(290, [0, 10, 0, 0], 3),
+        refused(290, [2, 40, 0, 0], 3),
+        refused(290, [65, 0, 0, 0], 3),
+        refused(290, [1, 18, 0, 0], 22),
+        refused(290, [1, 32, 0, 0], 22),
+    ];
+    assert_eq!(rt; first_other(&mut k, &rows), None);
+    assert_eq!(rt; k.tables().pending(Some(Tid::at(0)), Sig::of(10)), 2);
+    assert_eq!(rt; k.tables().pending(None, Sig::of(10)), 0);
+    Ok(())
+}
+
+#[test]
+fn signals_to_the_process(rt: HostRuntime) -> Result<(), Fail> {
+    let alloc = rt.alloc();
+    let mut k = start(alloc, PlainReady::new(alloc)?)?;
+    let rows = [
+        answered(291, [0, 0, 0, 0], 0),
+        answered(291, [10, 0, 0, 0], 0),
+        telling(291, [28, 0, 0, 0], 0, Beside::Dropped(1)),
+        refused(291, [22, 0, 0, 0], 22),
+        refused(291, [0xffff_ffff, 0, 0, 0], 22),
+    ];
+    assert_eq!(rt; first_other(&mut k, &rows), None);
+    assert_eq!(rt; k.tables().pending(Some(Tid::at(0)), Sig::of(10)), 0);
+    assert_eq!(rt; k.tables().pending(None, Sig::of(10)), 1);
+    Ok(())
+}
+
+#[test]
+fn what_pends_is_dropped(rt: HostRuntime) -> Result<(), Fail> {
+    let alloc = rt.alloc();
+    let mut k = start(alloc, PlainReady::new(alloc)?)?;
+    let rows = [
+        answered(286, [17, 0x10104, 0, 0], 0),
+        answered(290, [1, 17, 0, 0], 0),
+        answered(291, [17, 0, 0, 0], 0),
+        answered(291, [17, 0, 0, 0], 0),
+        telling(286, [17, 0, 0, 0], 0x10104, Beside::Dropped(3)),
+        answered(286, [17, 1, 0, 0], 0),
+        telling(290, [1, 17, 0, 0], 0, Beside::Dropped(1)),
+    ];
+    assert_eq!(rt; first_other(&mut k, &rows), None);
+    assert_eq!(rt; k.tables().pending(None, Sig::of(17)), 0);
+    Ok(())
+}
+
+#[test]
+fn kill_ends_the_process(rt: HostRuntime) -> Result<(), Fail> {
+    let alloc = rt.alloc();
+    let killed = [telling(290, [1, 9, 0, 0], 0, Beside::Killed(1))];
+    let mut k = start(alloc, PlainReady::new(alloc)?)?;
+    assert_eq!(rt; first_other(&mut k, &killed), None);
+    assert!(rt; k.tables().over().is_some());
+    let shared = [telling(291, [9, 0, 0, 0], 0, Beside::Killed(1))];
+    let mut q = start(alloc, PlainReady::new(alloc)?)?;
+    assert_eq!(rt; first_other(&mut q, &shared), None);
+    assert!(rt; q.tables().over().is_some());
+    Ok(())
+}
+
+#[test]
+fn calls_as_small_changes(rt: HostRuntime) -> Result<(), Fail> {
+    let alloc = rt.alloc();
+    for (number, args, changes) in [
+        (64, [1, 0x10000, 2, 0], 2),
+        (286, [10, 0x10104, 0, 0], 2),
+        (286, [9, 1, 0, 0], 1),
+        (287, [0, 0x400, 0, 0], 2),
+        (290, [1, 10, 0, 0], 2),
+        (290, [1, 0, 0, 0], 1),
+        (291, [9, 0, 0, 0], 2),
+        (291, [18, 0, 0, 0], 1),
+    ] {
+        let ready = PlainReady::new(alloc)?;
+        assert_eq!(rt;
+            small_changes(alloc, ready, number, args)?,
+            changes,
+            "call {number}"
+        );
+    }
+    Ok(())
+}
+
+#[test]
+fn calls_that_are_not_built(rt: HostRuntime) -> Result<(), Fail> {
+    let alloc = rt.alloc();
+    let mut k = start(alloc, PlainReady::new(alloc)?)?;
+    let rows = [
+        refused(63, [0, 0x10000, 1, 0], 38),
+        refused(288, [0; 4], 38),
+        refused(294, [0; 4], 38),
+    ];
+    assert_eq!(rt; first_other(&mut k, &rows), None);
     Ok(())
 }
