@@ -9,7 +9,7 @@ use Rattle.rv_exec.specs.Outcome.{HasEffect}
 use Rattle.rv_exec.specs.declared.Event.{Event}
 use Rattle.rv_exec.specs.declared.Event.TheVariants.{Next, Ecall, Fault, Return}
 use Rattle.rv_exec.specs.declared.Regs.{Regs}
-use Rattle.posix_model.specs.State.{State, Thread, Registers}
+use Rattle.posix_model.specs.State.{Registers}
 use Rattle.posix_model.specs.Changes.{set_registers}
 use Rattle.posix_model.specs.Threads.{exists}
 use Rattle.kernel_state.specs.Records.{RecordsState, context_of, contexts_of, registers_of, activities_of, masks_in, frames_in, threads_in, pending_in, actions_in, has_thread, thread_of}

@@ -1,5 +1,5 @@
 -- What always holds of a kernel, before and after each of its calls.
-use Rattle.std.proofs.Common.{◌≡◌, ◌∙◌, ap, sym, refl, subst, arith, ℕ, Bool, true, false, not, max, eqb, List, [], ◌∷◌, Option, Some, None, is_some, length}
+use Rattle.std.proofs.Common.{◌≡◌, ◌∙◌, ap, sym, refl, subst, arith, ℕ, true, false, not, List, [], ◌∷◌, Option, Some, None, is_some}
 use Rattle.std.proofs.lemmas.Bool.{eq-eqb}
 use Rattle.thread_base.specs.Orders.{is_nil}
 use Rattle.thread_base.specs.Priority.{first_greatest, greatest}
@@ -17,16 +17,15 @@ use Rattle.posix_model.proofs.StandingLemmas.{ready_live}
 use Rattle.kernel_state.specs.View.{view, outcome, StayCurrent}
 use Rattle.kernel_state.specs.Changing.{owed, AllCan, IsListed}
 use Rattle.kernel_state.specs.Executing.{HasExecuted}
-use Rattle.kernel_state.specs.Kernels.{KernelState, remaining, IsEmpty, IsIdle, told, with_main, owed_by, IsInPhase, IsSoundKernel}
+use Rattle.kernel_state.specs.Kernels.{KernelState, remaining, IsEmpty, told, with_main, owed_by, IsInPhase, IsSoundKernel}
 use Rattle.kernel_state.specs.Begun.{CanBegin, CanNote}
-use Rattle.kernel_state.specs.Moves.{InProgress, HasMade, MakesOne, MakesLast, IsStep}
+use Rattle.kernel_state.specs.Moves.{InProgress, HasMade, MakesOne, MakesLast}
 use Rattle.kernel_state.specs.Outside.{OutsideState}
 use Rattle.kernel_state.specs.Small.{IsSmall}
 use Rattle.kernel_state.specs.declared.kernel.MainLine.{MainLine}
-use Rattle.kernel_state.specs.declared.kernel.Stepped.TheVariants.{More, Exit}
 use Rattle.kernel_state.specs.declared.rest.Rest.{Rest}
 use Rattle.kernel_state.specs.declared.tables.Tables.{Tables}
-use Rattle.kernel_state.proofs.NoteLemmas.{all_made, idle_remaining}
+use Rattle.kernel_state.proofs.NoteLemmas.{all_made}
 use Rattle.kernel_state.proofs.SmallLemmas.{small_change}
 
 -- the chosen thread is ready

@@ -1,6 +1,5 @@
 -- Small changes that were noted on an idle kernel, and those that are left.
-use Rattle.std.proofs.Common.{◌≡◌, None, is_some, ◌∙◌, ap, sym, refl, subst, inl, inr, ℕ, zero, suc, ◌+◌, ◌<◌, ◌≤◌, true, false, Some, List, [], ◌∷◌, ◌++◌, drop, get_or, length, length-append, arith, leb}
-use Rattle.std.specs.Prelude.{if◌then◌else◌}
+use Rattle.std.proofs.Common.{◌≡◌, is_some, ◌∙◌, ap, sym, refl, subst, inl, inr, ℕ, zero, suc, ◌+◌, ◌<◌, true, false, Some, List, [], ◌∷◌, ◌++◌, drop, get_or, length, length-append, arith, leb}
 use Rattle.std.proofs.Math.Seq.{drop-cons}
 use Rattle.std.proofs.lemmas.Bool.{cases_lt, le-leb, lt-leb}
 use Rattle.std.proofs.lemmas.List.{drop_all}
@@ -16,7 +15,7 @@ use Rattle.kernel_state.specs.declared.rest.Rest.{Rest}
 use Rattle.kernel_state.specs.declared.kernel.MainLine.{MainLine}
 use Rattle.kernel_state.specs.declared.tables.Tables.{Tables}
 use Rattle.kernel_state.specs.Begun.{HasNoted, HasNotedSome, NotesMore, CanStart, IsBegun}
-use Rattle.kernel_state.specs.Kernels.{remaining, IsEmpty, IsIdle, with_main, owed_by}
+use Rattle.kernel_state.specs.Kernels.{remaining, IsEmpty, IsIdle, with_main}
 
 -- nothing is left of no move
 pub idle_remaining : (rest : Rest) → IsEmpty rest → remaining rest ≡ []

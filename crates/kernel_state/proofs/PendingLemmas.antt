@@ -1,13 +1,12 @@
 -- The next delivery, where nobody is cancelled.
 use Rattle.std.proofs.Common.{◌≡◌, ◌∙◌, ap, sym, refl, ℕ, Bool, true, false, not, ◌&&◌, ◌||◌, Option, None, find}
 use Rattle.std.specs.Option.{option_or, option_map}
-use Rattle.std.specs.List.{range_with_len}
 use Rattle.thread_base.specs.Deliveries.{next_delivery as next_signal}
 use Rattle.thread_base.specs.Priority.{tids}
 use Rattle.thread_base.proofs.SearchLemmas.{find_nowhere}
 use Rattle.posix_model.specs.State.{State, Thread, is_live, takes_back, wait_of, target}
 use Rattle.posix_model.specs.Scheduling.{eff}
-use Rattle.posix_model.specs.Deliveries.{Delivery, Acts, next_delivery, gives, is_cancelled, is_free_for, awaited, is_normal, is_cancellation_point}
+use Rattle.posix_model.specs.Deliveries.{Acts, next_delivery, gives, is_cancelled, is_free_for, awaited, is_normal, is_cancellation_point}
 use Rattle.kernel_state.specs.Executing.{delivery_by}
 use Rattle.kernel_state.proofs.ViewLemmas.{IsPlain, IsPlainState}
 

@@ -1,5 +1,5 @@
 -- What is shown after a change of one thread, and what is kept for signals of it.
-use Rattle.std.proofs.Common.{◌≡◌, ◌≢◌, ◌∙◌, ap, sym, refl, subst, ℕ, ◌<◌, ◌+◌, ◌-◌, arith, Bool, true, false, not, ◌&&◌, List, [], ◌∷◌, ◌++◌, map, reverse, length, take, get_or, slice_get, Option, Some, None, is_none, is_some, cond, eqb, find}
+use Rattle.std.proofs.Common.{◌≡◌, ◌≢◌, ◌∙◌, ap, sym, refl, ℕ, ◌-◌, arith, Bool, true, false, not, ◌&&◌, List, [], ◌∷◌, ◌++◌, map, reverse, length, take, get_or, slice_get, Option, Some, None, is_none, is_some, cond, eqb, find}
 use Rattle.std.specs.Option.{IsSome, option_map, option_or}
 use Rattle.std.specs.Prelude.{◌||◌, if◌then◌else◌, nat_lt, filter}
 use Rattle.std.proofs.lemmas.List.{reverse-append, map-append, length-reverse, length-map}
@@ -15,14 +15,14 @@ use Rattle.thread_base.proofs.MapLemmas.{put_is, put_same, put_other, put-put, p
 use Rattle.rv_exec.specs.declared.Regs.{Regs}
 use Rattle.thread_table.specs.Rows.{rows, free_number, put_found}
 use Rattle.thread_table.specs.declared.Row.{Row}
-use Rattle.context_frames.specs.Contexts.{saved_of, stack_of, top_of, below_top}
+use Rattle.context_frames.specs.Contexts.{stack_of, top_of, below_top}
 use Rattle.context_frames.specs.declared.Frame.{Frame as KeptFrame}
 use Rattle.context_frames.specs.declared.Saved.{Saved}
 use Rattle.thread_signals.specs.SignalState.{state_of, next_in, free_in as free_by}
 use Rattle.posix_model.specs.State.{Thread, Registers, Frame, no_thread, is_absent, target, set_at}
 use Rattle.posix_model.specs.Deliveries.{may_take}
 use Rattle.posix_model.specs.declared.Wait.{Wait}
-use Rattle.kernel_state.specs.Records.{RecordsState, registers_of, context_of, frame_of, frames_of, activities_of, contexts_of, masks_in, frames_in, threads_in, top_kind, next_signal, free_in, main_row, no_activity, first_threads, pending_in, actions_in, has_thread, AreCached, SameSignals, standing_of, thread_by, thread_of, threads_of}
+use Rattle.kernel_state.specs.Records.{RecordsState, context_of, frame_of, frames_of, activities_of, contexts_of, masks_in, frames_in, threads_in, top_kind, next_signal, free_in, main_row, no_activity, first_threads, pending_in, has_thread, AreCached, standing_of, thread_by, thread_of, threads_of}
 use Rattle.kernel_state.specs.declared.activity.Activity.{Activity}
 
 -- ---- stacks of frames

@@ -4,7 +4,6 @@ use Rattle.std.specs.Prelude.{if◌then◌else◌, slice_index, slice_set}
 use Rattle.thread_base.specs.Actions.{ignores}
 use Rattle.thread_base.specs.Maps.{put}
 use Rattle.thread_base.specs.declared.action.Action.{Action}
-use Rattle.posix_model.specs.State.{State}
 use Rattle.posix_model.specs.Changes.{Outcome}
 use Rattle.posix_model.specs.Deliveries.{left_of}
 use Rattle.posix_model.specs.Arrivals.{dropped}

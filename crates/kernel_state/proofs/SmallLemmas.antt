@@ -1,12 +1,12 @@
 -- Each small change is small.
 use Rattle.std.proofs.Common.{◌≡◌, ◌≢◌, ◌∙◌, ap, sym, refl, subst, ℕ, eqb, Bool, true, false, not, List, [], ◌∷◌, ◌++◌, Option, Some, None, cond}
-use Rattle.std.specs.Option.{IsSome, IsNone}
+use Rattle.std.specs.Option.{IsNone}
 use Rattle.std.proofs.lemmas.Bool.{eq-eqb}
-use Rattle.std.specs.Prelude.{if◌then◌else◌, filter}
+use Rattle.std.specs.Prelude.{if◌then◌else◌}
 use Rattle.thread_base.specs.Holders.{is_free}
 use Rattle.thread_base.specs.Maps.{put}
 use Rattle.thread_base.specs.Objects.{Mutex, Condition, with_waiters, with_holder, waiters_in, cond_waiters, without_waiter, entered}
-use Rattle.thread_base.specs.Orders.{without, is_in}
+use Rattle.thread_base.specs.Orders.{without}
 use Rattle.thread_base.proofs.MapLemmas.{put_same, put_other, kept}
 use Rattle.thread_base.proofs.OrderLemmas.{not_in-without, without_absent}
 use Rattle.posix_model.specs.State.{State, Thread, no_keys}
@@ -16,15 +16,14 @@ use Rattle.posix_model.specs.SignalCalls.{forgotten}
 use Rattle.thread_base.specs.Actions.{ignores}
 use Rattle.thread_base.specs.declared.action.Action.{Action}
 use Rattle.thread_signals.specs.Counts.{place_of}
-use Rattle.posix_model.specs.Changes.{Outcome, resumed}
+use Rattle.posix_model.specs.Changes.{Outcome}
 use Rattle.posix_model.specs.Leaving.{without_thread, over_with_last}
-use Rattle.posix_model.specs.Mutexes.{retake, retake_of, give, requeue}
+use Rattle.posix_model.specs.Mutexes.{retake_of, give, requeue}
 use Rattle.posix_model.specs.Threads.{some_live}
 use Rattle.posix_model.specs.declared.Ending.TheVariants.{Exit}
 use Rattle.posix_model.specs.declared.RetakeReply.{RetakeReply}
 use Rattle.kernel_state.specs.Changing.{Can, CanMutex, CanCondition, CanThread, HasNoMutex, change_by, thread_change_by, signal_change_by, mutex_change_by, condition_change_by, remains_of}
 use Rattle.kernel_state.specs.Small.{Object, TheMutex, TheCondition, TheSignal, TheEnding, bare, IsSame, ThreadList, ReadyList, MutexWaiters, CondWaiters, threads_of_list, IsUnmoved, IsSmall}
-use Rattle.kernel_state.specs.View.{with_ready}
 use Rattle.kernel_state.specs.declared.change.Change.{Change}
 use Rattle.kernel_state.specs.declared.change.Change.TheVariants.{Thread as OfThread, Mutex as OfMutex, Condition as OfCondition, Signal as OfSignal, Retake, Output, Over, Kill}
 use Rattle.kernel_state.specs.declared.change.ConditionChange.{ConditionChange}

@@ -18,7 +18,7 @@ use Rattle.posix_model.specs.Lines.{sig_numbers}
 use Rattle.posix_model.specs.Threads.{free_number, some_live}
 use Rattle.posix_model.specs.declared.Wait.{Wait}
 use Rattle.kernel_state.specs.Changing.{HasNoMutex}
-use Rattle.kernel_state.specs.Records.{RecordsState, SameSignals, threads_in, pending_in, actions_in, masks_in, frames_in, contexts_of, activities_of, thread_of, cancellation_of, standing_of, left, left_by}
+use Rattle.kernel_state.specs.Records.{RecordsState, SameSignals, threads_in, masks_in, frames_in, contexts_of, activities_of, thread_of, cancellation_of, standing_of, left, left_by}
 use Rattle.kernel_state.specs.View.{view, with_ready}
 use Rattle.kernel_state.specs.declared.activity.Activity.{Activity}
 use Rattle.kernel_state.specs.declared.tables.Tables.{Tables}

@@ -1,8 +1,7 @@
 -- The small changes by which a mutex is handed over and a thread is woken.
-use Rattle.std.proofs.Common.{◌≡◌, ◌∙◌, ap, sym, refl, ℕ, Bool, true, false, Option, Some, None, is_some}
+use Rattle.std.proofs.Common.{◌≡◌, ◌∙◌, ap, sym, refl, ℕ, true, false, Option, Some, None, is_some}
 use Rattle.std.proofs.lemmas.Bool.{eqb-true}
 use Rattle.thread_base.specs.Holders.{is_free}
-use Rattle.thread_base.specs.Maps.{put}
 use Rattle.thread_base.specs.Objects.{holder_in, waiters_in, with_holder, with_waiters}
 use Rattle.thread_base.specs.Orders.{is_in, without}
 use Rattle.thread_base.specs.declared.mutex.Holder.TheVariants.{Free, Held}

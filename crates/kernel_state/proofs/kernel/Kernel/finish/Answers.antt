@@ -1,10 +1,9 @@
-use Rattle.std.proofs.Common.{◌≡◌, ◌∙◌, ap, sym, subst}
+use Rattle.std.proofs.Common.{◌∙◌, ap, sym, subst}
 use Rattle.posix_model.specs.Changes.{Outcome}
 use Rattle.kernel_state.specs.View.{outcome}
 use Rattle.posix_model.specs.declared.Settings.{Settings}
 use Rattle.kernel_state.specs.Outside.{OutsideState}
-use Rattle.kernel_state.specs.Kernels.{KernelState, IsSoundKernel}
-use Rattle.kernel_state.specs.Moves.{InProgress}
+use Rattle.kernel_state.specs.Kernels.{IsSoundKernel}
 use Rattle.kernel_state.proofs.NoteLemmas.{all_made}
 use Rattle.kernel_state.proofs.KernelLemmas.{sound_finished}
 use Rattle.kernel_state.proofs.kernel.Kernel.finish.Goals as goal

@@ -6,7 +6,6 @@ use Rattle.posix_model.specs.Mutexes.{hand_off}
 use Rattle.posix_model.specs.Scheduling.{eff}
 use Rattle.kernel_state.specs.View.{view}
 use Rattle.kernel_state.specs.Begun.{HasNotedSome, NotesMore}
-use Rattle.kernel_state.specs.Changing.{change_by}
 use Rattle.kernel_state.proofs.WakingLemmas.{freed_by}
 use Rattle.kernel_state.specs.declared.tables.Tables.{Tables}
 use Rattle.kernel_state.proofs.kernel.Kernel.hand_off.Goals as goal

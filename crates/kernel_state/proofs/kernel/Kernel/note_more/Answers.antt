@@ -1,4 +1,4 @@
-use Rattle.std.proofs.Common.{◌∙◌, ap, arith, length, length-append, ◌∷◌, []}
+use Rattle.std.proofs.Common.{◌∙◌, ap, length, length-append, ◌∷◌, []}
 use Rattle.kernel_state.proofs.NoteLemmas.{notes_more}
 use Rattle.kernel_state.proofs.kernel.Kernel.note_more.Goals as goal
 

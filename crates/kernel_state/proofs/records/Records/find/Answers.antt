@@ -1,5 +1,5 @@
 use Rattle.std.proofs.Common.{◌≡◌, ◌∙◌, sym, subst, false, true}
-use Rattle.kernel_state.specs.Records.{has_thread, threads_in, thread_by, registers_of, contexts_of}
+use Rattle.kernel_state.specs.Records.{has_thread, threads_in, thread_by, registers_of}
 use Rattle.kernel_state.specs.contracts.records.Records.{the_view}
 use Rattle.kernel_state.proofs.RecordLemmas.{found_none, found_some, found_is}
 use Rattle.kernel_state.proofs.records.Records.find.Goals as goal

@@ -1,8 +1,7 @@
-use Rattle.std.proofs.Common.{◌≡◌, ◌∙◌, ap, sym, ℕ}
+use Rattle.std.proofs.Common.{◌∙◌, ap, sym}
 use Rattle.kernel_state.specs.Records.{RecordsState, next_signal}
 use Rattle.kernel_state.specs.contracts.records.Records.{the_view}
 use Rattle.kernel_state.proofs.RecordLemmas.{next_is}
-use Rattle.thread_base.proofs.MapLemmas.{put_got}
 use Rattle.std.proofs.Common.{refl}
 use Rattle.kernel_state.proofs.records.Records.is_calm.Goals as goal
 

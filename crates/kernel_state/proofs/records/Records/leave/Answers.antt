@@ -1,18 +1,16 @@
-use Rattle.std.proofs.Common.{◌≡◌, ◌∙◌, ap, sym, subst, arith, ℕ, ◌<◌, Bool, true, not, List, [], ◌∷◌, ◌++◌, length, Some, refl, is_some}
+use Rattle.std.proofs.Common.{◌≡◌, ◌∙◌, ap, sym, subst, ℕ, true, List, [], length, Some, refl, is_some}
 use Rattle.std.specs.Prelude.{if◌then◌else◌}
-use Rattle.std.proofs.lemmas.Bool.{ne_eqb}
 use Rattle.kernel_state.specs.declared.records.ThreadRecord.{ThreadRecord}
 use Rattle.thread_base.specs.Maps.{put}
 use Rattle.thread_base.proofs.MapLemmas.{put_got, put_same}
-use Rattle.context_frames.specs.Contexts.{stack_of, saved_of, below_top, top_of}
+use Rattle.context_frames.specs.Contexts.{stack_of, below_top}
 use Rattle.context_frames.specs.declared.Frame.{Frame as KeptFrame}
 use Rattle.context_frames.specs.declared.Saved.{Saved}
-use Rattle.thread_signals.specs.SignalState.{state_of}
-use Rattle.thread_table.specs.Rows.{rows, free_number, put_found}
-use Rattle.posix_model.specs.State.{Thread, Frame, is_of_handler}
-use Rattle.kernel_state.specs.Records.{RecordsState, AreCached, threads_in, thread_in, frames_in, frames_of, frame_of, contexts_of, registers_of, context_of, activities_of, has_thread, masks_in, entered, left, left_by}
+use Rattle.thread_table.specs.Rows.{rows}
+use Rattle.posix_model.specs.State.{Thread, is_of_handler}
+use Rattle.kernel_state.specs.Records.{RecordsState, threads_in, thread_in, frames_of, registers_of, context_of, activities_of, has_thread, left_by}
 use Rattle.kernel_state.specs.contracts.records.Records.{the_view}
-use Rattle.kernel_state.proofs.RecordLemmas.{is_row, frames_there, changed, gone, alike, cached_put, cached_still, depth_of, depth_same, frames_same, frames_put, frames_none, frames_pushed, frames_below, frames_bare, stack_bare, kept_at, row_there}
+use Rattle.kernel_state.proofs.RecordLemmas.{frames_there, changed, alike, cached_put, cached_still, depth_of, frames_put, frames_none, frames_below, stack_bare, kept_at}
 use Rattle.kernel_state.proofs.records.Records.leave.Goals as goal
 
 -- ---- no frame is there

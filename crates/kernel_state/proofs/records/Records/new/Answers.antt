@@ -1,15 +1,11 @@
-use Rattle.std.proofs.Common.{◌≡◌, ◌∙◌, ap, sym, refl, subst, ℕ, true, List, [], ◌∷◌, length, Option, Some, None}
+use Rattle.std.proofs.Common.{◌≡◌, ◌∙◌, ap, sym, ℕ, true, List}
 use Rattle.thread_base.specs.Maps.{put}
-use Rattle.thread_base.proofs.MapLemmas.{put_got, put_same}
-use Rattle.context_frames.specs.Contexts.{stack_of, saved_of, below_top, top_of}
+use Rattle.context_frames.specs.Contexts.{saved_of}
 use Rattle.context_frames.specs.declared.Frame.{Frame as KeptFrame}
-use Rattle.context_frames.specs.declared.Saved.{Saved}
-use Rattle.thread_signals.specs.SignalState.{state_of, SignalState}
-use Rattle.thread_table.specs.Rows.{rows, free_number, put_found}
-use Rattle.posix_model.specs.State.{Thread, Frame, is_of_handler}
-use Rattle.kernel_state.specs.Records.{RecordsState, AreCached, threads_in, thread_in, frames_in, frames_of, frame_of, contexts_of, registers_of, context_of, activities_of, has_thread, masks_in, first_threads, entered, left, left_by}
-use Rattle.kernel_state.specs.contracts.records.Records.{the_view}
-use Rattle.kernel_state.proofs.RecordLemmas.{is_row, frames_there, changed, gone, alike, cached_put, cached_still, depth_of, depth_same, frames_same, frames_put, frames_none, frames_pushed, frames_below, frames_bare, kept_at, row_there, in_place, first_made, first_shown, first_cached}
+use Rattle.thread_signals.specs.SignalState.{SignalState}
+use Rattle.thread_table.specs.Rows.{rows}
+use Rattle.kernel_state.specs.Records.{RecordsState, threads_in, frames_of, registers_of, context_of, first_threads}
+use Rattle.kernel_state.proofs.RecordLemmas.{frames_none, in_place, first_made, first_shown, first_cached}
 use Rattle.kernel_state.proofs.records.Records.new.Goals as goal
 
 abbrev state : goal.After-new-2 → RecordsState

@@ -1,4 +1,4 @@
-use Rattle.std.proofs.Common.{◌≡◌, ◌∙◌, ap}
+use Rattle.std.proofs.Common.{◌∙◌, ap}
 use Rattle.thread_base.specs.Maps.{numbered}
 use Rattle.kernel_state.specs.Records.{RecordsState, next_signal}
 use Rattle.kernel_state.specs.contracts.records.Records.{the_view}

@@ -1,4 +1,4 @@
-use Rattle.std.proofs.Common.{refl, ◌++◌, ◌∷◌, []}
+use Rattle.std.proofs.Common.{refl}
 use Rattle.kernel_state.specs.View.{view, with_ready}
 use Rattle.kernel_state.proofs.CurrentLemmas.{come_current, moved_current}
 use Rattle.kernel_state.proofs.tables.Tables.append.Goals as goal

@@ -1,6 +1,5 @@
-use Rattle.std.proofs.Common.{◌∙◌, ap, sym}
+use Rattle.std.proofs.Common.{◌∙◌, sym}
 use Rattle.posix_model.specs.Leaving.{with_end}
-use Rattle.posix_model.specs.declared.Report.{Report}
 use Rattle.kernel_state.specs.View.{view, outcome}
 use Rattle.kernel_state.proofs.tables.Tables.end.Goals as goal
 

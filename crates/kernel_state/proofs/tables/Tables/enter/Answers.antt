@@ -1,8 +1,8 @@
-use Rattle.std.proofs.Common.{refl, []}
-use Rattle.kernel_state.specs.Records.{registers_of, entered, left}
+use Rattle.std.proofs.Common.{refl}
+use Rattle.kernel_state.specs.Records.{registers_of, entered}
 use Rattle.kernel_state.specs.View.{view}
 use Rattle.kernel_state.proofs.CurrentLemmas.{kept_current, moved_current}
-use Rattle.kernel_state.proofs.ViewLemmas.{view_changed, left_base}
+use Rattle.kernel_state.proofs.ViewLemmas.{view_changed}
 use Rattle.kernel_state.proofs.tables.Tables.enter.Goals as goal
 
 pub enter-requires-clause-there : goal.enter-requires-clause-there

@@ -1,5 +1,4 @@
-use Rattle.std.proofs.Common.{◌≡◌, ◌∙◌, ap, sym, subst}
-use Rattle.kernel_state.specs.Records.{RecordsState}
+use Rattle.std.proofs.Common.{sym, subst}
 use Rattle.kernel_state.specs.View.{view, AreCurrent}
 use Rattle.kernel_state.specs.Executing.{HasExecuted}
 use Rattle.kernel_state.proofs.ExecutingLemmas.{executed, executed_current}

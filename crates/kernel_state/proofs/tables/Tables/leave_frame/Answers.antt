@@ -1,5 +1,5 @@
-use Rattle.std.proofs.Common.{refl, []}
-use Rattle.kernel_state.specs.Records.{registers_of, entered, left}
+use Rattle.std.proofs.Common.{refl}
+use Rattle.kernel_state.specs.Records.{left}
 use Rattle.kernel_state.specs.View.{view}
 use Rattle.kernel_state.proofs.CurrentLemmas.{kept_current, moved_current}
 use Rattle.kernel_state.proofs.ViewLemmas.{view_changed, left_base}

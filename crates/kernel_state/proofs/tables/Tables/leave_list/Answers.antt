@@ -1,10 +1,10 @@
 use Rattle.std.proofs.Common.{◌∙◌, ap}
-use Rattle.thread_base.specs.Orders.{is_in, without}
+use Rattle.thread_base.specs.Orders.{is_in}
 use Rattle.thread_base.proofs.OrderLemmas.{not_in-without}
 use Rattle.posix_model.specs.Changes.{set_thread}
 use Rattle.posix_model.specs.State.{State, Thread}
 use Rattle.posix_model.specs.Leaving.{over_with_last}
-use Rattle.kernel_state.specs.View.{view, with_ready}
+use Rattle.kernel_state.specs.View.{view}
 use Rattle.kernel_state.specs.Changing.{remains_of}
 use Rattle.kernel_state.proofs.ViewLemmas.{gone_calmly, view_plain}
 use Rattle.kernel_state.proofs.tables.Tables.leave_list.Goals as goal

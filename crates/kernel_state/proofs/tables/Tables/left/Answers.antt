@@ -1,6 +1,4 @@
-use Rattle.std.proofs.Common.{◌≡◌, ◌∙◌, ap, ℕ, map}
-use Rattle.thread_signals.specs.Counts.{all_of}
-use Rattle.posix_model.specs.Deliveries.{left_of}
+use Rattle.std.proofs.Common.{◌∙◌, map}
 use Rattle.posix_model.specs.Lines.{sig_numbers}
 use Rattle.posix_model.specs.Trace.{left}
 use Rattle.kernel_state.specs.Records.{pending_in}

@@ -1,4 +1,4 @@
-use Rattle.std.proofs.Common.{sym, ℕ, None}
+use Rattle.std.proofs.Common.{sym, None}
 use Rattle.posix_model.specs.Scheduling.{eff}
 use Rattle.kernel_state.specs.View.{view}
 use Rattle.kernel_state.proofs.PendingLemmas.{next_given}

@@ -1,10 +1,10 @@
 use Rattle.std.proofs.Common.{◌∙◌, ap}
 use Rattle.thread_base.specs.Objects.{with_waiters, appended}
-use Rattle.posix_model.specs.State.{State, Thread, Waits, is_live}
+use Rattle.posix_model.specs.State.{State, Waits, is_live}
 use Rattle.posix_model.specs.Changes.{Outcome, set_thread}
 use Rattle.posix_model.specs.Mutexes.{set_mutex}
 use Rattle.posix_model.specs.declared.Wait.TheVariants.{Reacquire}
-use Rattle.kernel_state.specs.View.{view, outcome}
+use Rattle.kernel_state.specs.View.{outcome}
 use Rattle.kernel_state.proofs.tables.Tables.requeue.Goals as goal
 
 pub wait_for-requires : goal.wait_for-requires
