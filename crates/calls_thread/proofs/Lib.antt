@@ -1,4 +1,5 @@
 pub mod StayLemmas
 pub mod OrphanLemmas
+pub mod DropLemmas
 pub mod EndLemmas
-pub mod FaultLemmas
+pub mod ReturnLemmas

@@ -3,10 +3,13 @@
 #![tactic(auto)]
 
 mod beginning;
+mod ending;
+mod faults;
 mod returns;
 mod rows;
 #[cfg(test)]
 mod tests;
 
 pub use beginning::{begin, begin_unknown, step};
-pub use returns::{begin_fault, begin_return};
+pub use faults::begin_fault;
+pub use returns::begin_return;

@@ -1,18 +1,18 @@
-ghost use Rattle.std.specs.Prelude.{◌≡◌, ◌≢◌, true, Some};
-ghost use Rattle.posix_model.specs.State.{Thread};
+ghost use Rattle.std.specs.Prelude.{◌≡◌, ◌≢◌, true, List, Some};
+ghost use Rattle.posix_model.specs.State.{Frame};
 ghost use Rattle.posix_model.specs.Threads.{exists, free_number, new_thread};
 ghost use Rattle.kernel_state.specs.Changing.{begun_thread};
 ghost use Rattle.posix_model.specs.Calls as calls;
 ghost use Rattle.posix_model.specs.Calls.{cannot_start, values, row_of, thread_calls};
 ghost use Rattle.posix_model.specs.Changes.{begun};
+ghost use Rattle.kernel_state.specs.Records.{thread_in};
 ghost use Rattle.kernel_state.specs.View.{view};
 ghost use Rattle.kernel_state.specs.Begun.{CanNote, HasNotedSome};
 
-use kernel_state::{Beginning, Change, Kernel, ThreadChange};
+use kernel_state::{Beginning, Change, Kernel, ThreadChange, ThreadRecord};
 use posix_model::{Arguments, Attributes, Ending, Reply, Wait};
 use ready_queues::Ready;
 use thread_base::{Errno, Tid};
-use thread_table::Row;
 
 /// Tells the caller's number, by POSIX.1 pthread_self.
 pub(crate) fn self_number<R: Ready + Drop>(k: &mut Kernel<R>, t: Tid, c: Arguments) -> Reply
@@ -48,13 +48,14 @@ fn cannot_start(c: Arguments) -> bool
 }
 
 /// What a new thread begins with that a thread makes.
-fn first_of(creator: Row, c: Arguments) -> Beginning
-    ensures { (thread : Thread) → thread.base ≡ creator.base → thread.policy ≡ creator.policy → thread.mask ≡ 0 → begun_thread result ≡ new_thread thread c }
+fn first_of(creator: ThreadRecord, c: Arguments) -> Beginning
+    ensures { (frames : List Frame) → begun_thread result ≡ new_thread (thread_in creator frames) c }
 {
     let attributes = Attributes { word: c.a3 };
     Beginning {
-        base: attributes.base(creator.base),
-        policy: attributes.policy(creator.policy),
+        base: attributes.base(creator.row.base),
+        policy: attributes.policy(creator.row.policy),
+        mask: creator.mask,
         detached: attributes.detached(),
         routine: c.a0,
         argument: c.a1,
@@ -111,7 +112,7 @@ fn start<R: Ready + Drop>(k: &mut Kernel<R>, t: Tid, u: Tid, c: Arguments) -> Re
     ensures noted { HasNotedSome R.order k.old k.new (calls.created (view R.order k.old.tables) t c (Some u)).outcome }
     ensures reply { result ≡ (calls.created (view R.order k.old.tables) t c (Some u)).reply }
 {
-    let creator = k.tables().known(t).row;
+    let creator = k.tables().known(t);
     let change = ThreadChange::Create {
         beginning: first_of(creator, c),
     };

@@ -27,6 +27,7 @@ use Rattle.kernel_state.specs.Kernels.{KernelState, IsIdle, IsSoundKernel}
 use Rattle.kernel_state.specs.declared.change.Change.TheVariants.{Thread as OfThread, Signal as OfSignal, Over}
 use Rattle.kernel_state.specs.declared.change.SignalChange.TheVariants.{Pend, Take}
 use Rattle.kernel_state.specs.declared.change.ThreadChange.TheVariants.{Answer, Handle}
+use Rattle.kernel_state.specs.declared.kernel.MainLine.TheVariants.{OfThread as ByThread}
 use Rattle.kernel_state.specs.declared.tables.Tables.{Tables}
 use Rattle.kernel_state.proofs.KernelLemmas.{rests}
 use Rattle.kernel_state.proofs.NoteLemmas.{noted_none, tables_stay, can_start, begun_by}
@@ -161,5 +162,5 @@ module _ {R : Type 0} (order : R → List ℕ) (prios : R → ℕ → ℕ) (k : 
     pub can_begin : CanStart order r
     can_begin = can_start order k r made.so_far made.noted (subst (λ (x : Outcome). IsGood x.state) (sym made.told) (deliveries_keep_good before good))
 
-    pub is_begun : (after : KernelState R) → after ≡ record r { main = Some (record { thread = t; head = head }) } → IsBegun order k after (deliver before)
-    is_begun after begun = subst (IsBegun order k after) made.told (begun_by order k r made.so_far made.noted after (record { thread = t; head = head }) begun)
+    pub is_begun : (after : KernelState R) → after ≡ record r { main = Some (ByThread t head) } → IsBegun order k after (deliver before)
+    is_begun after begun = subst (IsBegun order k after) made.told (begun_by order k r made.so_far made.noted after (ByThread t head) begun)

@@ -1,3 +1,4 @@
+pub mod ArrivalLemmas
 pub mod TakeLemmas
 pub mod WaitLemmas
 pub mod DeliverLemmas

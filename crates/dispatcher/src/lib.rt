@@ -1,6 +1,8 @@
-//! The deliveries of signals, each as small changes that are noted when it begins.
+//! Arrivals and deliveries, each as small changes that are noted when it begins.
 #![tactic(auto)]
 
+mod arrival;
 mod delivery;
 
+pub use arrival::begin_arrival;
 pub use delivery::begin_delivery;

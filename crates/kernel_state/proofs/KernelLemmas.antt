@@ -20,6 +20,7 @@ use Rattle.kernel_state.specs.Executing.{HasExecuted}
 use Rattle.kernel_state.specs.Kernels.{KernelState, remaining, IsEmpty, IsIdle, told, with_main, owed_by, IsInPhase, IsSoundKernel}
 use Rattle.kernel_state.specs.Begun.{CanBegin, CanNote}
 use Rattle.kernel_state.specs.Moves.{InProgress, HasMade, MakesOne, MakesLast, IsStep}
+use Rattle.kernel_state.specs.Outside.{OutsideState}
 use Rattle.kernel_state.specs.Small.{IsSmall}
 use Rattle.kernel_state.specs.declared.kernel.MainLine.{MainLine}
 use Rattle.kernel_state.specs.declared.kernel.Stepped.TheVariants.{More, Exit}
@@ -95,6 +96,14 @@ module _ {R : Type 0} (order : R → List ℕ) (prios : R → ℕ → ℕ) (k : 
         subst (λ g. IsGood (owed g (remaining k.rest)).state) (sym both) h.2,
       )
 
+  -- what came from outside changes
+  pub sound_outside : (outside : OutsideState) → IsSoundKernel order prios (record k { outside = outside })
+  sound_outside outside = record { current = sound.current; phase = phase k.main sound.phase }
+    where
+      phase : (main : Option MainLine) → IsInPhase order k main → IsInPhase order (record k { outside = outside }) main
+      phase None h = h
+      phase (Some main) h = h
+
   -- a small change is noted
   pub sound_noted : (rest : Rest) → k.main ≡ None → IsSoundKernel order prios (record k { rest = rest })
   sound_noted rest idle = record { current = sound.current; phase = subst (IsInPhase order (record k { rest = rest })) (sym idle) (rests idle) }
@@ -132,7 +141,7 @@ module _ {R : Type 0} (order : R → List ℕ) (prios : R → ℕ → ℕ) (k : 
           phase (Some main) is = (some, made.can, subst (λ (g : Outcome). IsGood g.state) (sym owed_same) progress.2)
 
       pub makes_one : is_nil (remaining rest) ≡ false → MakesOne order k (record k { tables = tables; rest = rest })
-      makes_one more = record { change = made.change; first = made.first; makes = made.makes; more = more; owed = ap (with_main k.main) owed_same; main = refl; settings = refl }
+      makes_one more = record { change = made.change; first = made.first; makes = made.makes; more = more; owed = ap (with_main k.main) owed_same; main = refl; settings = refl; outside = refl }
 
     -- all that was left was made, and the move is told
     module _ (last tables : Tables R) (done rest : Rest) (main : Option MainLine) (same : owed (outcome order last) (remaining done) ≡ owed (outcome order k.tables) (remaining k.rest))
@@ -148,17 +157,18 @@ module _ {R : Type 0} (order : R → List ℕ) (prios : R → ℕ → ℕ) (k : 
       pub report_is : (report : Report) → report ≡ told k.main (outcome order last).report → report ≡ (owed_by order k).report
       report_is report e = e ∙ ap (λ (g : Outcome). told k.main g.report) all
 
-      pub sound_finished : IsSoundKernel order prios (record { tables = tables; rest = rest; main = main; settings = k.settings })
+      pub sound_finished : IsSoundKernel order prios (record { tables = tables; rest = rest; main = main; outside = k.outside; settings = k.settings })
       sound_finished = record {
         current = stays (current sound.current);
-        phase = subst (IsInPhase order (record { tables = tables; rest = rest; main = main; settings = k.settings })) (sym gone) (subst IsGood (sym state_is) progress.2, untold);
+        phase = subst (IsInPhase order (record { tables = tables; rest = rest; main = main; outside = k.outside; settings = k.settings })) (sym gone) (subst IsGood (sym state_is) progress.2, untold);
       }
 
-      pub makes_last : HasMade order k.tables k.rest last done → MakesLast order k (record { tables = tables; rest = rest; main = main; settings = k.settings })
+      pub makes_last : HasMade order k.tables k.rest last done → MakesLast order k (record { tables = tables; rest = rest; main = main; outside = k.outside; settings = k.settings })
       makes_last made = record {
         change = made.change;
         last = made.first ∙ ap (λ xs. made.change ∷ xs) (all_made order last done nothing).0;
         view_is = state_is;
         idle = record { main = gone; rest = empty };
         settings = refl;
+        outside = refl;
       }

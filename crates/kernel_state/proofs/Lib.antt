@@ -13,3 +13,8 @@ pub mod SteadyLemmas
 pub mod RecordLemmas
 pub mod SignalLemmas
 pub mod SumLemmas
+pub mod ArrivalLemmas
+pub mod LawLemmas
+pub mod NumberLemmas
+pub mod OutsideLemmas
+pub mod PresentedLemmas

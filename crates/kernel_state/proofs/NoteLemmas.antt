@@ -153,4 +153,5 @@ module _ {R : Type 0} (order : R → List ℕ) (k q : KernelState R) (g : Outcom
             (subst (λ (x : Tables _). AllCan (outcome order x) (remaining q.rest)) (sym tables) noted_can);
         tables = tables ∙ sym same_tables;
         settings = ap (λ (x : KernelState _). x.settings) told ∙ ap (λ (x : KernelState _). x.settings) noted.so_far.others;
+        outside = ap (λ (x : KernelState _). x.outside) told ∙ ap (λ (x : KernelState _). x.outside) noted.so_far.others;
       }

@@ -48,8 +48,7 @@ split_last d f (g ∷ stack) = ap (λ xs. f ∷ xs) (split_last d g stack)
 -- a stack is what is below its top, and its top
 split_top : (f : KeptFrame) (stack : List KeptFrame) → (top : KeptFrame) × (top_of (f ∷ stack) ≡ Some top) × (f ∷ stack ≡ below_top (f ∷ stack) ++ top ∷ [])
 split_top f stack =
-    let last : length (f ∷ stack) - 1 ≡ length stack = omega arith in
-    (
+    let last : length (f ∷ stack) - 1 ≡ length stack = omega arith in (
       get_or (f ∷ stack) (length stack) f,
       ap (slice_get (f ∷ stack)) last ∙ slice_get-get_or (f ∷ stack) (length stack) f (omega arith),
       split_last f f stack ∙ ap (λ n. take n (f ∷ stack) ++ get_or (f ∷ stack) (length stack) f ∷ []) (sym last),

@@ -118,8 +118,8 @@ module _ (counts : ℕ → ℕ → ℕ) (place sig : ℕ) where
   unfolding rows_sum
   rows_taken there low high =
       let change =
-          total_change (λ u. row_sum (taken u)) (λ u. row_sum (counts u)) place 0 65
-          (λ u ne. ap row_sum (put_other counts place (put (counts place) sig 0) u ne)) (omega arith) (omega arith) in
+      total_change (λ u. row_sum (taken u)) (λ u. row_sum (counts u)) place 0 65
+      (λ u ne. ap row_sum (put_other counts place (put (counts place) sig 0) u ne)) (omega arith) (omega arith) in
       let here : row_sum (taken place) ≡ row_sum (put (counts place) sig 0) = ap row_sum (put_same counts place (put (counts place) sig 0)) in
       let less = row_taken (counts place) sig low high in
       omega (arith, change, here, less)

@@ -63,7 +63,7 @@ pub record CanStart {R : Type 0} (order : R → List ℕ) (k : KernelState R) : 
   pub good : IsGood (owed (outcome order k.tables) (remaining k.rest)).state
 
 -- a move of one small change at least and 512 at most was begun and nothing else: what it owes the machine, with its
--- thread and its main line, is one change of the definitions, each of its small changes can be made in its turn, and
+-- main line, is one change of the definitions, each of its small changes can be made in its turn, and
 -- the tables stay
 pub record IsBegun {R : Type 0} (order : R → List ℕ) (k q : KernelState R) (g : Outcome) : Type 0 where
   pub main : InProgress q
@@ -73,6 +73,7 @@ pub record IsBegun {R : Type 0} (order : R → List ℕ) (k q : KernelState R) (
   pub can : AllCan (outcome order q.tables) (remaining q.rest)
   pub tables : q.tables ≡ k.tables
   pub settings : q.settings ≡ k.settings
+  pub outside : q.outside ≡ k.outside
 
 -- the arguments of a call by their names
 abbrev pub arguments_of : List ℕ → Arguments

@@ -9,16 +9,19 @@ use Rattle.posix_model.specs.declared.Settings.{Settings}
 use Rattle.kernel_state.specs.View.{view, outcome, AreCurrent}
 use Rattle.kernel_state.specs.Changing.{owed, AllCan}
 use Rattle.kernel_state.specs.declared.change.Change.{Change}
+use Rattle.kernel_state.specs.Outside.{OutsideState}
 use Rattle.kernel_state.specs.declared.kernel.MainLine.{MainLine}
+use Rattle.kernel_state.specs.declared.kernel.MainLine.TheVariants.{OfThread, Arrival}
 use Rattle.kernel_state.specs.declared.rest.Rest.{Rest}
 use Rattle.kernel_state.specs.declared.tables.Tables.{Tables}
 
--- the kernel: all tables, and of the move in progress its small changes and its main line, which is there from its
+-- the kernel: all tables, what came from outside, and of the move in progress its small changes and its main line, which is there from its
 -- begin to its last change
 pub record KernelState (R : Type 0) : Type 0 where
   pub tables : Tables R
   pub rest : Rest
   pub main : Option MainLine
+  pub outside : OutsideState
   pub settings : Settings
 
 -- the small changes that are left of a move
@@ -35,10 +38,11 @@ pub record IsIdle {R : Type 0} (k : KernelState R) : Type 0 where
   pub main : k.main ≡ None
   pub rest : IsEmpty k.rest
 
--- a report with the thread and the main line of a move, where there is one
+-- a report that tells whose a move is and its main line, where there is one; an arrival is of no thread
 abbrev pub told : Option MainLine → Report → Report
 told None report = report
-told (Some main) report = record report { tid = main.thread; head = main.head }
+told (Some (OfThread t head)) report = record report { tid = t; head = head }
+told (Some (Arrival head at)) report = record report { tid = 0; head = head; at = at }
 
 -- what a move comes to, with its thread and its main line
 abbrev pub with_main : Option MainLine → Outcome → Outcome

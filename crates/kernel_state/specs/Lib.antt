@@ -7,3 +7,7 @@ pub mod Small
 pub mod Begun
 pub mod Waking
 pub mod Executing
+pub mod Outside
+pub mod Presented
+pub mod Recorded
+pub mod Laws

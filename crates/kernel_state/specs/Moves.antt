@@ -32,6 +32,7 @@ pub record MakesOne {R : Type 0} (order : R → List ℕ) (k q : KernelState R) 
   pub owed : owed_by order q ≡ owed_by order k
   pub main : q.main ≡ k.main
   pub settings : q.settings ≡ k.settings
+  pub outside : q.outside ≡ k.outside
 
 -- one small change was made and it was the last one: the tables show what was owed, and no move is in progress
 pub record MakesLast {R : Type 0} (order : R → List ℕ) (k q : KernelState R) : Type 0 where
@@ -40,6 +41,7 @@ pub record MakesLast {R : Type 0} (order : R → List ℕ) (k q : KernelState R)
   pub view_is : view order q.tables ≡ (owed_by order k).state
   pub idle : IsIdle q
   pub settings : q.settings ≡ k.settings
+  pub outside : q.outside ≡ k.outside
 
 -- a step of a move: more is left, or it was the last one and the move's report is told
 abbrev pub IsStep : {R : Type 0} → (R → List ℕ) → KernelState R → Stepped → KernelState R → Type 0

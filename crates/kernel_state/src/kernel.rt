@@ -1,4 +1,4 @@
-ghost use Rattle.std.specs.Prelude.{◌≡◌, ◌<◌, ◌+◌, ◌++◌, [], ◌∷◌, true, false, Some, None, IfOk, length};
+ghost use Rattle.std.specs.Prelude.{◌≡◌, ◌<◌, ◌≤◌, ◌+◌, ◌++◌, [], ◌∷◌, true, false, Some, None, IfOk, OnOk, OnErr, length};
 ghost use Rattle.thread_base.specs.Orders.{is_nil};
 ghost use Rattle.posix_model.specs.Reports.{nothing_told};
 ghost use Rattle.posix_model.specs.Scheduling.{chosen};
@@ -11,18 +11,23 @@ ghost use Rattle.kernel_state.specs.Executing.{HasExecuted};
 ghost use Rattle.kernel_state.specs.Kernels.{IsEmpty, IsIdle, IsSoundKernel, remaining, told, owed_by};
 ghost use Rattle.kernel_state.specs.Begun.{CanBegin, CanNote, CanStart, HasNotedSome, NotesMore, arguments_of};
 ghost use Rattle.kernel_state.specs.Moves.{InProgress, HasMade, IsStep};
+ghost use Rattle.kernel_state.specs.Outside.{attached, present, gather, drained, drain};
+ghost use Rattle.kernel_state.specs.Presented.{KeepsStanding, TakesDrained};
 ghost use Rattle.kernel_state.specs.Small.{IsSmall};
 
 use crate::change::Change;
+use crate::outside::Outside;
 use crate::rest::Rest;
 use crate::tables::Tables;
 use elf_image::EntryPoint;
+use journal_text::Journal;
 use posix_model::{Arguments, Head, Reply, Report, Settings};
 use ready_queues::Ready;
 use rv_exec::{Event, Memory};
 use std::alloc::Global;
 use std::marker::Model;
-use thread_base::{Errno, NoMemory, Tid};
+use thread_base::{Errno, NoMemory, Place, Tid};
+use unix_process::Taken;
 
 /// What a step of a move gave: more of it is left, or it is made, with its report.
 #[derive(Clone, Copy, Debug)]
@@ -31,20 +36,43 @@ pub enum Stepped {
     Exit(Report),
 }
 
-/// The thread of a move and its main line.
+/// Whose a move is, with its main line: a thread's, or of what came from outside, with the place where the first of its
+/// entries was presented.
 #[derive(Clone, Copy, Debug)]
-pub struct MainLine {
-    pub thread: Tid,
-    pub head: Head,
+pub enum MainLine {
+    OfThread { thread: Tid, head: Head },
+    Arrival { head: Head, at: Place },
 }
 
-/// The kernel: all tables, and of the move in progress its small changes, and its thread and main line from its
-/// begin to its last change. Its state is good, what it owes made, and each change that is left can be made.
+impl MainLine {
+    /// A report that tells whose the move is and its main line too.
+    fn tell(self, report: Report) -> Report
+        ensures { result ≡ told (Some self) report }
+    {
+        match self {
+            MainLine::OfThread { thread, head } => Report {
+                tid: thread.number(),
+                head,
+                ..report
+            },
+            MainLine::Arrival { head, at } => Report {
+                tid: 0,
+                head,
+                at,
+                ..report
+            },
+        }
+    }
+}
+
+/// The kernel: all tables, what came from outside, and of the move in progress its small changes, and its main line from
+/// its begin to its last change. Its state is good, what it owes made, and each change that is left can be made.
 #[derive(Drop)]
 pub struct Kernel<R: Ready + Drop> {
     tables: Tables<R>,
     rest: Rest,
     main: Option<MainLine>,
+    outside: Outside,
     settings: Settings,
 }
 
@@ -53,9 +81,9 @@ impl<R: Ready + Drop> Model for Kernel<R> {
 
     ghost Value = { KernelState R };
 
-    ghost view = { λ k. record { tables = k.tables; rest = k.rest; main = k.main; settings = k.settings } };
+    ghost view = { λ k. record { tables = k.tables; rest = k.rest; main = k.main; outside = k.outside; settings = k.settings } };
 
-    ghost invariant = { λ k. IsSoundKernel R.order R.prio (record { tables = k.tables; rest = k.rest; main = k.main; settings = k.settings }) };
+    ghost invariant = { λ k. IsSoundKernel R.order R.prio (record { tables = k.tables; rest = k.rest; main = k.main; outside = k.outside; settings = k.settings }) };
 }
 
 impl<R: Ready + Drop> Kernel<R> {
@@ -78,8 +106,46 @@ impl<R: Ready + Drop> Kernel<R> {
             tables: Tables::new(alloc, ready, memory, entry)?,
             rest: Rest::new(),
             main: None,
+            outside: Outside::new(),
             settings,
         })
+    }
+
+    /// What came from outside.
+    pub fn outside(&self) -> &Outside
+        ensures { result.now ≡ self.now.outside }
+    {
+        &self.outside
+    }
+
+    /// Takes the journal of the run, with room for the place of each of its entries. After NoMemory nothing has changed.
+    pub fn attach(&mut self, alloc: Global, journal: Journal) -> Result<(), NoMemory>
+        requires { self.old.outside.presented ≡ 0 }
+        ensures made { OnOk result (self.new ≡ record self.old { outside = attached self.old.outside journal }) }
+        ensures same { OnErr result (self.new ≡ self.old) }
+    {
+        self.outside.attach(alloc, journal)
+    }
+
+    /// Presents the next entry of the journal at a place.
+    pub fn present(&mut self, number: u32, at: Place)
+        requires next { number ≡ self.old.outside.presented + 1 }
+        requires there { number ≤ length self.old.outside.journal.entries }
+        ensures state { self.new ≡ record self.old { outside = present self.old.outside number at } }
+        ensures stands { KeepsStanding self.old.outside self.new.outside }
+    {
+        self.outside.present(number, at);
+    }
+
+    /// Takes what came from outside first: all entries of a signal, or one entry of ticks or of input; None exactly where
+    /// nothing waits.
+    pub fn drain(&mut self) -> Option<Taken>
+        ensures first { result ≡ drained (gather self.old.outside).log.slots }
+        ensures rest { self.new ≡ record self.old { outside = drain (gather self.old.outside) } }
+        ensures stands { TakesDrained self.old.outside result self.new.outside }
+    {
+        self.outside.gather();
+        self.outside.drain()
     }
 
     /// All tables. What always holds of a kernel is told here.
@@ -175,9 +241,18 @@ impl<R: Ready + Drop> Kernel<R> {
     /// Begins the move of the small changes that were noted, with its thread and its main line.
     pub fn begin_move(&mut self, t: Tid, head: Head)
         requires { CanStart R.order self.old }
-        ensures { self.new ≡ record self.old { main = Some (record { thread = t; head = head }) } }
+        ensures { self.new ≡ record self.old { main = Some (MainLine.OfThread t head) } }
     {
-        self.main = Some(MainLine { thread: t, head });
+        self.main = Some(MainLine::OfThread { thread: t, head });
+    }
+
+    /// Begins the arrival of the small changes that were noted, with its main line and the place where the first of its
+    /// entries was presented.
+    pub fn begin_arrival(&mut self, head: Head, at: Place)
+        requires { CanStart R.order self.old }
+        ensures { self.new ≡ record self.old { main = Some (MainLine.Arrival head at) } }
+    {
+        self.main = Some(MainLine::Arrival { head, at });
     }
 
     /// Makes the next small change of the move in progress, and no other. Exit comes exactly where it was the last
@@ -202,6 +277,7 @@ impl<R: Ready + Drop> Kernel<R> {
         ensures report { result ≡ (owed_by R.order self.old).report }
         ensures idle { IsIdle self.new }
         ensures settings { self.new.settings ≡ self.old.settings }
+        ensures outside { self.new.outside ≡ self.old.outside }
     {
         while !self.rest.is_empty() {
             make_next(&mut self.tables, &mut self.rest);
@@ -237,11 +313,7 @@ fn take_report<R: Ready + Drop>(
 {
     let report = match main {
         None => tables.report,
-        Some(main) => Report {
-            tid: main.thread.number(),
-            head: main.head,
-            ..tables.report
-        },
+        Some(main) => main.tell(tables.report),
     };
     tables.report = Report::nothing();
     rest.clear();

@@ -6,6 +6,9 @@ mod change;
 mod conditions;
 mod kernel;
 mod mutexes;
+mod outside;
+#[cfg(test)]
+mod outside_tests;
 mod records;
 mod rest;
 mod signals;
@@ -18,6 +21,7 @@ mod waking;
 pub use activity::{Activities, Activity};
 pub use change::{Beginning, Change, ConditionChange, MutexChange, SignalChange, ThreadChange};
 pub use kernel::{Kernel, MainLine, Stepped, arguments_from};
+pub use outside::{Outside, arrivals};
 pub use records::{Records, ThreadRecord};
 pub use rest::Rest;
 pub use tables::Tables;

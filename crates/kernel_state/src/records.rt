@@ -11,7 +11,7 @@ ghost use Rattle.thread_signals.specs.Counts.{place_of, put_count, without_signa
 ghost use Rattle.thread_signals.specs.SignalState.{state_of};
 ghost use Rattle.posix_model.specs.State.{Frame as MachineFrame, no_thread, is_of_handler, wait_of, target, set_at, none_pending, default_actions};
 ghost use Rattle.posix_model.specs.Deliveries.{may_take};
-ghost use Rattle.kernel_state.specs.Records.{SameSignals, threads_in, thread_in, standing_in, pending_in, actions_in, has_thread, registers_of, context_of, contexts_of, activities_of, main_row, first_threads, entered, left, top_kind, next_signal};
+ghost use Rattle.kernel_state.specs.Records.{SameSignals, threads_in, thread_in, standing_in, pending_in, actions_in, has_thread, registers_of, context_of, contexts_of, activities_of, main_row, first_threads, entered, left, top_kind, free_in, next_signal};
 
 use crate::activity::{Activities, Activity};
 use context_frames::{Frame, FrameKind, Frames, Saved};
@@ -278,6 +278,23 @@ impl Records {
         ensures { has_thread self.now t ≡ true → result ≡ top_kind (threads_in self.now t).frames }
     {
         self.frames.top(t)
+    }
+
+    /// How many frames a thread has; nothing is said where it is not there.
+    pub fn depth(&self, t: Tid) -> u32
+        ensures { has_thread self.now t ≡ true → result ≡ length (threads_in self.now t).frames }
+    {
+        self.frames.depth(t)
+    }
+
+    /// Whether a thread is free for a signal: it may take signals and does not block this one.
+    pub fn is_free_for(&self, t: Tid, s: Sig) -> bool
+        ensures { result ≡ free_in self.now t s }
+    {
+        match self.find(t) {
+            None => false,
+            Some(known) => known.may_take(self.depth(t)) && !known.mask.has(s),
+        }
     }
 
     /// Puts the registers of a thread in place, and saves those that were there; the threads stay.

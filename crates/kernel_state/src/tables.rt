@@ -4,12 +4,13 @@ ghost use Rattle.posix_model.specs.State.{no_thread, joins};
 ghost use Rattle.posix_model.specs.Good.{IsGood};
 ghost use Rattle.posix_model.specs.Calls.{is_taken};
 ghost use Rattle.posix_model.specs.Changes.{set_thread};
+ghost use Rattle.posix_model.specs.Deliveries.{is_free_for};
 ghost use Rattle.posix_model.specs.Reports.{nothing_told};
 ghost use Rattle.posix_model.specs.Scheduling.{own, chosen};
 ghost use Rattle.posix_model.specs.Start.{start_state, start_registers};
 ghost use Rattle.posix_model.specs.Threads.{exists, free_number, joiner, some_live};
 ghost use Rattle.kernel_state.specs.Executing.{HasExecuted};
-ghost use Rattle.kernel_state.specs.Records.{thread_in, standing_in, registers_of, entered, left};
+ghost use Rattle.kernel_state.specs.Records.{thread_in, standing_in, registers_of, entered, left, top_kind};
 ghost use Rattle.kernel_state.specs.View.{view, with_ready, AreCurrent, StayCurrent};
 
 use crate::records::{Records, ThreadRecord};
@@ -21,7 +22,7 @@ use posix_model::{Ending, Report};
 use ready_queues::Ready;
 use rv_exec::{BASE, Event, Memory, Regs, START_RETURN};
 use std::alloc::Global;
-use thread_base::{NoMemory, Prio, SigSet, Tid};
+use thread_base::{NoMemory, Prio, Sig, SigSet, Tid};
 
 impl ThreadRecord {
     /// Whether the thread waits for the end of another.
@@ -169,6 +170,32 @@ impl<R: Ready + Drop> Tables<R> {
             Some(known) => known,
             None => unreachable!(),
         }
+    }
+
+    /// What the last frame of a thread is for that is there; None exactly where it has none.
+    #[tactic(auto, unfolding(crate::specs::View::view))]
+    pub fn top(&self, t: Tid) -> Option<FrameKind>
+        requires { exists (view R.order self.now) t ≡ true }
+        ensures { result ≡ top_kind ((view R.order self.now).threads t).frames }
+    {
+        self.records.top(t)
+    }
+
+    /// How many frames a thread has that is there.
+    #[tactic(auto, unfolding(crate::specs::View::view))]
+    pub fn depth(&self, t: Tid) -> u32
+        requires { exists (view R.order self.now) t ≡ true }
+        ensures { result ≡ length ((view R.order self.now).threads t).frames }
+    {
+        self.records.depth(t)
+    }
+
+    /// Whether a thread is free for a signal: it may take signals and does not block this one.
+    #[tactic(auto, unfolding(crate::specs::View::view))]
+    pub fn is_free_for(&self, t: Tid, s: Sig) -> bool
+        ensures { result ≡ is_free_for (view R.order self.now) t s }
+    {
+        self.records.is_free_for(t, s)
     }
 
     /// The memory.

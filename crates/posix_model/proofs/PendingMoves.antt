@@ -18,7 +18,7 @@ use Rattle.posix_model.specs.Journals.{OfSignal, OfTicks, kind_of, Taken, with_t
 use Rattle.posix_model.specs.Runs.{Rules, Moment, Allowed, IsRun, arrived, moved, after, taken_by, IsAlone}
 use Rattle.posix_model.specs.Start.{start}
 use Rattle.posix_model.specs.Weights.{total, PendsInScope, pending_in_all}
-use Rattle.posix_model.specs.Laws.{taken_in_all, PendingIsBounded}
+use Rattle.posix_model.specs.Laws.{taken_in_all, IsBounded, PendingIsBounded}
 use Rattle.posix_model.specs.declared.Move.{Move}
 use Rattle.posix_model.specs.declared.Move.TheVariants.{Instr, Arrive, Deliver}
 use Rattle.posix_model.proofs.PendingLemmas.{either}
@@ -144,12 +144,6 @@ move_adds rules now move journal pends allowed =
 
 -- ---- runs
 
--- what a run keeps
-pub record IsBounded (now : Moment) : Type 0 where
-  pub sum : pending_in_all now.state ≤ now.instructions + taken_in_all now.taken
-  pub time : now.state.now ≤ now.taken OfTicks
-  pub scope : PendsInScope now.state
-
 -- what a move adds is an instruction made or entries taken
 record IsCounted (rules : Rules) (now : Moment) (move : Move) : Type 0 where
   sum : now.instructions + taken_in_all now.taken + most_added move ≤ (moved rules now move).instructions + taken_in_all (moved rules now move).taken
@@ -199,5 +193,4 @@ bounded_start memory entry = record {
 
 pub pending_is_bounded : PendingIsBounded
 pending_is_bounded rules memory entry moves journal run =
-    let bounded = bounded_run rules (start memory entry) moves journal (bounded_start memory entry) run in
-    (bounded.sum, bounded.time, bounded.scope)
+    bounded_run rules (start memory entry) moves journal (bounded_start memory entry) run

@@ -118,13 +118,16 @@ abbrev pub taken_in_all : Taken → ℕ
 taken_in_all taken = total (λ sig. taken (OfSignal sig)) signals + taken OfTicks + taken OfInput
 
 -- all that pends came by an instruction or an entry and has a signal in scope, and the time is at most the ticks taken
+pub record IsBounded (now : Moment) : Type 0 where
+  pub sum : pending_in_all now.state ≤ now.instructions + taken_in_all now.taken
+  pub time : now.state.now ≤ now.taken OfTicks
+  pub scope : PendsInScope now.state
+
+-- so it is after every run from a start
 abbrev pub PendingIsBounded : Type 0
 PendingIsBounded =
     (rules : Rules) (memory : List ℕ) (entry : ℕ) (moves : List Move) → IsJournal rules.journal → IsRun rules (start memory entry) moves →
-    (pending_in_all (after rules (start memory entry) moves).state
-    ≤ (after rules (start memory entry) moves).instructions + taken_in_all (after rules (start memory entry) moves).taken)
-    × ((after rules (start memory entry) moves).state.now ≤ (after rules (start memory entry) moves).taken OfTicks)
-    × PendsInScope (after rules (start memory entry) moves).state
+    IsBounded (after rules (start memory entry) moves)
 
 -- a thread's effective priority is the greatest own priority over the thread itself and every thread from which
 -- a chain of waits leads to it (POSIX.1 priority inheritance)

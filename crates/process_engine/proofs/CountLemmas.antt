@@ -3,10 +3,10 @@ use Rattle.std.proofs.Common.{◌≡◌, ◌∙◌, ap, sym, refl, ℕ, ◌+◌,
 use Rattle.std.proofs.lemmas.Bool.{eq-eqb}
 use Rattle.posix_model.specs.Runs.{Rules, Moment, make, moved, after}
 use Rattle.posix_model.specs.declared.Head.{Head}
-use Rattle.posix_model.specs.declared.Head.TheVariants.{Quiet, Deliver as DeliverHead}
+use Rattle.posix_model.specs.declared.Head.TheVariants.{Quiet}
 use Rattle.posix_model.specs.declared.Move.{Move}
 use Rattle.posix_model.specs.declared.Move.TheVariants.{Instr, Arrive, Deliver}
-use Rattle.trace_text.specs.Counting.{no_counts, plus, one_if, is_call, is_delivery, is_switch, counted, counts, told_of, told_by}
+use Rattle.trace_text.specs.Counting.{no_counts, plus, one_if, is_call, is_arrival, is_delivery, is_switch, counted, counts, told_of, told_by}
 use Rattle.trace_text.specs.declared.tally.Counts.{Counts}
 
 -- counts are added up
@@ -30,14 +30,19 @@ counts-append rules now (m ∷ ms) others =
     ap (plus (counted rules now m)) (counts-append rules (moved rules now m) ms others)
     ∙ sym (plus_plus (counted rules now m) (counts rules (moved rules now m) ms) (counts rules (after rules (moved rules now m) ms) others))
 
+-- a main line of a thread's instruction is that of no arrival and of no delivery
+pub record IsPlainMain (head : Head) : Type 0 where
+  pub no_arrival : is_arrival head ≡ false
+  pub no_delivery : is_delivery head ≡ false
+
 -- what an instruction adds to what is told, and a delivery
-pub instruction_counts : (rules : Rules) (now : Moment) (t : ℕ) (last : Option ℕ) (head : Head) → last ≡ Some t → (make rules now.state (Instr t)).report.head ≡ head → is_delivery head ≡ false
+pub instruction_counts : (rules : Rules) (now : Moment) (t : ℕ) (last : Option ℕ) (head : Head) → last ≡ Some t → (make rules now.state (Instr t)).report.head ≡ head → IsPlainMain head
     → told_of (counted rules now (Instr t)) ≡ told_by now.last last head
 instruction_counts rules now t last head by is other = λ i. record {
   instructions = 0;
   calls = one_if (is_call (is i));
-  arrivals = 0;
-  deliveries = one_if (sym other i);
+  arrivals = one_if (sym other.no_arrival i);
+  deliveries = one_if (sym other.no_delivery i);
   switches = one_if (is_switch now.last (sym by i));
 }
 
@@ -45,12 +50,18 @@ same_thread : (last : Option ℕ) → is_switch last last ≡ false
 same_thread None = refl
 same_thread (Some t) = rw (eq-eqb t t refl) refl
 
-pub delivery_counts : (rules : Rules) (now : Moment) (last : Option ℕ) (head : Head) (to sig count : ℕ) → last ≡ now.last → head ≡ DeliverHead to sig count → told_of (counted rules now Deliver) ≡ told_by now.last last head
-delivery_counts rules now last head to sig count by is = λ i. record {
+-- a main line of a delivery
+pub record IsDeliveryMain (head : Head) : Type 0 where
+  pub delivery : is_delivery head ≡ true
+  pub no_call : is_call head ≡ false
+  pub no_arrival : is_arrival head ≡ false
+
+pub delivery_counts : (rules : Rules) (now : Moment) (last : Option ℕ) (head : Head) → last ≡ now.last → IsDeliveryMain head → told_of (counted rules now Deliver) ≡ told_by now.last last head
+delivery_counts rules now last head by is = λ i. record {
   instructions = 0;
-  calls = one_if (is_call (sym is i));
-  arrivals = 0;
-  deliveries = one_if (is_delivery (sym is i));
+  calls = one_if (sym is.no_call i);
+  arrivals = one_if (sym is.no_arrival i);
+  deliveries = one_if (sym is.delivery i);
   switches = one_if (sym (ap (is_switch now.last) by ∙ same_thread now.last) i);
 }
 
@@ -73,7 +84,7 @@ all_instructions rules now (m ∷ ms) =
 
 -- three things are told of a move at most
 abbrev pub things : Counts → ℕ
-things c = c.calls + c.deliveries + c.switches
+things c = c.calls + c.arrivals + c.deliveries + c.switches
 
 one_at_most : (b : Bool) → one_if b ≤ 1
 one_at_most true = omega arith

@@ -4,10 +4,13 @@ use Rattle.thread_base.specs.Priority.{tids}
 use Rattle.journal_text.specs.Contents.{Contents, empty}
 use Rattle.journal_text.specs.Valid.{IsJournal}
 use Rattle.ready_queues.specs.Queue.{Queue}
-use Rattle.posix_model.specs.State.{State, Ready, none_pending}
+use Rattle.posix_model.specs.State.{State}
 use Rattle.posix_model.specs.Scheduling.{chosen}
 use Rattle.posix_model.specs.Changes.{Outcome}
-use Rattle.posix_model.specs.Deliveries.{Gives, next_delivery, delivered, deliver}
+use Rattle.posix_model.specs.Deliveries.{Delivery, next_delivery, deliver}
+use Rattle.posix_model.specs.Laws.{IsBounded}
+use Rattle.posix_model.specs.Weights.{pending_in_all}
+use Rattle.posix_model.proofs.PendingMoves.{bounded_move}
 use Rattle.posix_model.specs.Good.{IsGood}
 use Rattle.posix_model.specs.Journals.{Taken, nothing_taken, untaken}
 use Rattle.posix_model.specs.Instructions.{instruction}
@@ -17,20 +20,16 @@ use Rattle.posix_model.specs.Lines.{lines, head_line, alarm_line, out_line, took
 use Rattle.posix_model.specs.declared.Ending.{Ending}
 use Rattle.posix_model.specs.declared.Ending.TheVariants.{Budget, Idle}
 use Rattle.posix_model.specs.declared.Head.{Head}
-use Rattle.posix_model.specs.declared.Head.TheVariants.{Quiet, Deliver as DeliverHead}
+use Rattle.posix_model.specs.declared.Head.TheVariants.{Quiet}
 use Rattle.posix_model.specs.declared.Move.{Move}
 use Rattle.posix_model.specs.declared.Move.TheVariants.{Instr, Arrive, Deliver}
 use Rattle.posix_model.specs.declared.Report.{Report}
-use Rattle.posix_model.proofs.DeliveryLemmas.{next_none}
 use Rattle.posix_model.proofs.GoodMoves.{goodness}
 use Rattle.posix_model.proofs.JournalLemmas.{empty_is_journal, no_entry_due, none_untaken}
-use Rattle.kernel_state.proofs.PendingLemmas.{not_cancelled, pends_once}
-use Rattle.posix_model.proofs.StandingLemmas.{ready_is}
-use Rattle.kernel_state.proofs.ViewLemmas.{view_plain}
 use Rattle.trace_text.specs.Counting.{is_delivery, counted, told_of, told_by as added_by}
-use Rattle.kernel_state.specs.View.{view, outcome, one_pending, IsPrompt}
+use Rattle.kernel_state.specs.View.{view, outcome}
 use Rattle.kernel_state.specs.Changing.{owed}
-use Rattle.kernel_state.specs.Begun.{IsBegun}
+use Rattle.kernel_state.specs.Begun.{HasRoom, IsBegun}
 use Rattle.kernel_state.specs.Kernels.{KernelState, remaining, IsEmpty, IsIdle, owed_by}
 use Rattle.kernel_state.specs.declared.rest.Rest.{Rest}
 use Rattle.process_engine.specs.Engine.{Engine, order, owed_of, moment_of, position_of, telling_of, HasTurn, Stands, IsSound}
@@ -38,8 +37,9 @@ use Rattle.process_engine.specs.Advancing.{HasGoneOn, HasBegun, BeginsInstructio
 use Rattle.process_engine.specs.declared.stage.Advance.TheVariants.{Plain, Switched, Begun}
 use Rattle.process_engine.specs.declared.stage.Stage.{Stage}
 use Rattle.process_engine.specs.declared.stage.Stage.TheVariants.{Going, Paused, InCall}
-use Rattle.kernel_state.proofs.NoteLemmas.{idle_remaining, told_delivery}
-use Rattle.process_engine.proofs.CountLemmas.{instruction_counts, delivery_counts}
+use Rattle.kernel_state.proofs.NoteLemmas.{idle_remaining}
+use Rattle.process_engine.proofs.CountLemmas.{IsPlainMain, IsDeliveryMain, instruction_counts, delivery_counts}
+use Rattle.process_engine.proofs.DeliveryLemmas.{delivery_main, none_taken}
 use Rattle.process_engine.proofs.InstructionLemmas.{has_begun}
 
 -- at rest nothing is left, and nothing is owed
@@ -66,6 +66,10 @@ rests_at InCall k last report stands e = absurd (let h : Some report ≡ None = 
 pub rest_stands : (p : Engine) → IsSound p → (position_of p).telling ≡ None → IsIdle p.kernel
 rest_stands p sound e = rests_at p.stage p.kernel p.last (owed_of p).report sound.stands e
 
+-- the journal without an entry is one
+pub is_journal : (rules : Rules) → rules.journal ≡ empty → IsJournal rules.journal
+is_journal rules none = subst IsJournal (sym none) empty_is_journal
+
 -- a process after a move is sound, and so is one whose run stays
 within_budget : (rules : Rules) (now : Moment) (move : Move) → Allowed rules now move → now.instructions ≤ rules.settings.budget → (moved rules now move).instructions ≤ rules.settings.budget
 within_budget rules now (Instr t) allowed within = let less = allowed.1 in omega (arith, less)
@@ -73,8 +77,8 @@ within_budget rules now (Arrive first count at) allowed within = within
 within_budget rules now Deliver allowed within = within
 
 module _ (p q : Engine) (sound : IsSound p) (rules : q.rules ≡ p.rules) (stands : Stands order q.kernel q.last q.stage) where
-  sound_at : (now : Moment) → moment_of q ≡ now → now.instructions ≤ p.rules.settings.budget → IsGood now.state → IsSound q
-  sound_at now is within good =
+  sound_at : (now : Moment) → moment_of q ≡ now → now.instructions ≤ p.rules.settings.budget → IsGood now.state → IsBounded now → IsSound q
+  sound_at now is within good bounded =
       let budget = ap (λ (x : Rules). x.settings.budget) rules in
       let instructions = ap (λ (x : Moment). x.instructions) is in
       let limit = sound.limit in
@@ -83,15 +87,17 @@ module _ (p q : Engine) (sound : IsSound p) (rules : q.rules ≡ p.rules) (stand
         limit = omega (arith, budget, limit);
         journal = ap (λ (x : Rules). x.journal) rules ∙ sound.journal;
         good = subst (λ (x : Moment). IsGood x.state) (sym is) good;
+        bounded = subst IsBounded (sym is) bounded;
         stands = stands;
       }
 
   pub sound_same : moment_of q ≡ moment_of p → IsSound q
-  sound_same same = sound_at (moment_of p) same sound.within sound.good
+  sound_same same = sound_at (moment_of p) same sound.within sound.good sound.bounded
 
   pub sound_moved : (move : Move) → Allowed p.rules (moment_of p) move → moment_of q ≡ moved p.rules (moment_of p) move → IsSound q
   sound_moved move allowed leads =
       sound_at (moved p.rules (moment_of p) move) leads (within_budget p.rules (moment_of p) move allowed sound.within) (goodness.1 p.rules (moment_of p) move sound.good allowed)
+      (bounded_move p.rules (moment_of p) move (is_journal p.rules sound.journal) sound.bounded allowed)
 
 -- no entry is due
 nothing_due : (rules : Rules) (now : Moment) → rules.journal ≡ empty → due rules now ≡ []
@@ -100,28 +106,25 @@ nothing_due rules now none = ap (λ (j : Contents). due (record rules { journal 
 nothing_left : (rules : Rules) (taken : Taken) → rules.journal ≡ empty → untaken rules.journal.entries taken ≡ []
 nothing_left rules taken none = ap (λ (j : Contents). untaken j.entries taken) none ∙ none_untaken taken
 
-pub is_journal : (rules : Rules) → rules.journal ≡ empty → IsJournal rules.journal
-is_journal rules none = subst IsJournal (sym none) empty_is_journal
-
 -- a thread is chosen, and has its turn
 pub record Turn (p : Engine) (t : ℕ) : Type 0 where
   pub rest : IsIdle p.kernel
   pub going_on : (view order p.kernel.tables).over ≡ None
-  pub calm : (view order p.kernel.tables).pending ≡ none_pending
+  pub settled : next_delivery (view order p.kernel.tables) ≡ None
   pub first : chosen (view order p.kernel.tables) ≡ Some t
 
-pub going_turn : (p : Engine) → IsSound p → p.stage ≡ Going → Turn p p.kernel.tables.placed × (p.last ≡ Some p.kernel.tables.placed)
+pub going_turn : (p : Engine) → IsSound p → p.stage ≡ Going → Turn p p.kernel.tables.records.placed × (p.last ≡ Some p.kernel.tables.records.placed)
 going_turn p sound e =
     let on = stands_at p Going sound e in
-    (record { rest = on.0; going_on = on.1.going_on; calm = on.1.calm; first = on.1.first }, on.2)
+    (record { rest = on.0; going_on = on.1.going_on; settled = on.1.settled; first = on.1.first }, on.2)
 
-pub chosen_turn : (p old : Engine) (t : ℕ) → p ≡ old → IsSound p → old.stage ≡ Paused → (view order old.kernel.tables).over ≡ None → (view order old.kernel.tables).pending ≡ none_pending
+pub chosen_turn : (p old : Engine) (t : ℕ) → p ≡ old → IsSound p → old.stage ≡ Paused → (view order old.kernel.tables).over ≡ None → next_delivery (view order old.kernel.tables) ≡ None
     → chosen (view order old.kernel.tables) ≡ Some t → Turn p t
-chosen_turn p old t is sound paused over calm first =
-    subst (λ x. Turn x t) (sym is) (record { rest = stands_at old Paused (subst IsSound is sound) paused; going_on = over; calm = calm; first = first })
+chosen_turn p old t is sound paused over settled first =
+    subst (λ x. Turn x t) (sym is) (record { rest = stands_at old Paused (subst IsSound is sound) paused; going_on = over; settled = settled; first = first })
 
 -- the chosen thread is put in place
-module _ (p : Engine) (t : ℕ) (turn : Turn p t) (k : KernelState Queue) (same : view order k.tables ≡ view order p.kernel.tables) (placed : k.tables.placed ≡ t)
+module _ (p : Engine) (t : ℕ) (turn : Turn p t) (k : KernelState Queue) (same : view order k.tables ≡ view order p.kernel.tables) (placed : k.tables.records.placed ≡ t)
     (others : k ≡ record p.kernel { tables = k.tables }) where
   pub placed_idle : IsIdle k
   placed_idle = record {
@@ -132,15 +135,18 @@ module _ (p : Engine) (t : ℕ) (turn : Turn p t) (k : KernelState Queue) (same 
   pub placed_turn : HasTurn order k
   placed_turn = record {
     going_on = ap (λ (s : State). s.over) same ∙ turn.going_on;
-    calm = ap (λ (s : State). s.pending) same ∙ turn.calm;
+    settled = ap next_delivery same ∙ turn.settled;
     first = ap chosen same ∙ turn.first ∙ ap Some (sym placed);
   }
 
--- where nothing pends, no delivery is next
-calm_next : (p : Engine) → (view order p.kernel.tables).pending ≡ none_pending → next_delivery (view order p.kernel.tables) ≡ None
-calm_next p calm =
-    let s = view order p.kernel.tables in
-    next_none s (λ t. not_cancelled (s.threads t) ((view_plain order p.kernel.tables).threads t)) (λ t sig. ap (λ (m : ℕ → ℕ → ℕ). m t sig) calm)
+-- what pends leaves room for more: no more pends than instructions were made
+pub has_room : (p : Engine) (k : KernelState Queue) → IsSound p → IsIdle p.kernel → view order k.tables ≡ view order p.kernel.tables → HasRoom (view order k.tables)
+has_room p k sound rest same =
+    let state = ap pending_in_all (moment_state p rest ∙ sym same) in
+    let sum = sound.bounded.sum in
+    let within = sound.within in
+    let limit = sound.limit in
+    omega (arith, state, sum, within, limit, none_taken)
 
 turn_of : (p : Engine) (t : ℕ) → p.rules.journal ≡ empty → Turn p t → IsTurnOf p.rules (moment_of p) t
 turn_of p t none turn =
@@ -148,7 +154,7 @@ turn_of p t none turn =
     record {
       going_on = ap (λ (s : State). s.over) same ∙ turn.going_on;
       nothing_due = nothing_due p.rules (moment_of p) none;
-      settled = ap next_delivery same ∙ calm_next p turn.calm;
+      settled = ap next_delivery same ∙ turn.settled;
       first = ap chosen same ∙ turn.first;
     }
 
@@ -159,13 +165,13 @@ has_ended p old ending is ends = subst (λ x. EndsHere x x ending) is (record { 
 pub is_over : (p old : Engine) (ending : Ending) → p ≡ old → IsIdle p.kernel → (view order p.kernel.tables).over ≡ Some ending → EndsHere old old ending
 is_over p old ending is rest over = has_ended p old ending is (inl (ap (λ (s : State). s.over) (moment_state p rest) ∙ over))
 
-pub is_idle : (p old : Engine) → p ≡ old → IsSound p → IsIdle p.kernel → (view order p.kernel.tables).over ≡ None → (view order p.kernel.tables).pending ≡ none_pending
+pub is_idle : (p old : Engine) → p ≡ old → IsSound p → IsIdle p.kernel → (view order p.kernel.tables).over ≡ None → next_delivery (view order p.kernel.tables) ≡ None
     → chosen (view order p.kernel.tables) ≡ None → EndsHere old old Idle
-is_idle p old is sound rest over calm nobody =
+is_idle p old is sound rest over settled nobody =
     let same = moment_state p rest in
     let idle : IsIdleRun p.rules (moment_of p) = record {
       going_on = ap (λ (s : State). s.over) same ∙ over;
-      settled = ap next_delivery same ∙ calm_next p calm;
+      settled = ap next_delivery same ∙ settled;
       nobody = ap chosen same ∙ nobody;
       taken = nothing_left p.rules (moment_of p).taken sound.journal;
     } in
@@ -209,18 +215,18 @@ module _ (p old : Engine) (is : p ≡ old) (t : ℕ) (sound : IsSound p) (turn :
   allowed_here : Allowed p.rules (moment_of p) (Instr t)
   allowed_here = (turn_of p t sound.journal turn, (let within = sound.within in omega (arith, within, other)))
 
-  module _ (k l : KernelState Queue) (same : view order k.tables ≡ view order p.kernel.tables) (placed : k.tables.placed ≡ t)
+  module _ (k l : KernelState Queue) (same : view order k.tables ≡ view order p.kernel.tables) (placed : k.tables.records.placed ≡ t)
       (last : Option ℕ) (by : last ≡ Some t) where
     abbrev at : Stage → Engine
     at stage = record { kernel = l; instructions = p.instructions + 1; last = last; stage = stage; rules = p.rules }
 
-    made_is : instruction (view order k.tables) k.tables.placed ≡ instruction (moment_of p).state t
+    made_is : instruction (view order k.tables) k.tables.records.placed ≡ instruction (moment_of p).state t
     made_is = λ i. instruction ((same ∙ sym (moment_state p turn.rest)) i) (placed i)
 
     leads_to : (stage : Stage) → (owed_of (at stage)).state ≡ (instruction (moment_of p).state t).state → moment_of (at stage) ≡ moved p.rules (moment_of p) (Instr t)
     leads_to stage state = λ i. record { state = state i; instructions = p.instructions + 1; last = by i; taken = nothing_taken }
 
-    adds : (head : Head) → (instruction (view order k.tables) k.tables.placed).report.head ≡ head → is_delivery head ≡ false
+    adds : (head : Head) → (instruction (view order k.tables) k.tables.records.placed).report.head ≡ head → IsPlainMain head
         → told_of (counted p.rules (moment_of p) (Instr t)) ≡ added_by p.last last head
     adds head tells none = instruction_counts p.rules (moment_of p) t last head by (sym (ap (λ (g : Outcome). g.report.head) made_is) ∙ tells) none
 
@@ -230,11 +236,11 @@ module _ (p old : Engine) (is : p ≡ old) (t : ℕ) (sound : IsSound p) (turn :
 
       plain : MakesPlain p (at stage)
       plain = record {
-        makes = record { move = Instr t; allowed = allowed_here; leads = went_to; counts = adds Quiet (ap (λ (r : Report). r.head) on.tells ∙ quiet_head k.tables.placed) refl };
+        makes = record { move = Instr t; allowed = allowed_here; leads = went_to; counts = adds Quiet (ap (λ (r : Report). r.head) on.tells ∙ quiet_head k.tables.records.placed) (record { no_arrival = refl; no_delivery = refl }) };
         silent =
             ap (λ (g : Outcome). lines g.report (moment_of (at stage)).state.memory) (sym made_is)
             ∙ ap (λ r. lines r (moment_of (at stage)).state.memory) on.tells
-            ∙ no_lines k.tables.placed (moment_of (at stage)).state.memory;
+            ∙ no_lines k.tables.records.placed (moment_of (at stage)).state.memory;
         stage = going;
         none = none_remaining l.rest on.rest.rest;
         shown = sym (moment_state (at stage) on.rest);
@@ -251,20 +257,20 @@ module _ (p old : Engine) (is : p ≡ old) (t : ℕ) (sound : IsSound p) (turn :
           let stands : Stands order l last Going = (on.rest, on.turn, by ∙ ap Some (sym (on.placed ∙ placed))) in
           sound_moved p (at stage) sound refl (subst (Stands order l last) (sym going) stands) (Instr t) allowed_here went_to
 
-    module _ (has : BeginsInstruction order k l (instruction (view order k.tables) k.tables.placed)) where
+    module _ (has : BeginsInstruction order k l (instruction (view order k.tables) k.tables.records.placed)) where
       begun_to : moment_of (at InCall) ≡ moved p.rules (moment_of p) (Instr t)
       begun_to = leads_to InCall (state_is p (at InCall) k same (Instr t) _ has.0 made_is allowed_here refl)
 
       pub goes_begun : Advances old (Begun p.last) (record { kernel = l; instructions = p.instructions + 1; last = last; stage = InCall; rules = p.rules })
       goes_begun =
-          (subst (λ x. BeginsMove x (at InCall)) is (begins p (at InCall) k same (Instr t) _ has.0 made_is allowed_here refl begun_to (adds _ refl has.1)), ap (λ (x : Engine). x.last) is)
+          (subst (λ x. BeginsMove x (at InCall)) is (begins p (at InCall) k same (Instr t) _ has.0 made_is allowed_here refl begun_to (adds _ refl (record { no_arrival = has.1; no_delivery = has.2 }))), ap (λ (x : Engine). x.last) is)
 
       pub begun_sound : IsSound (record { kernel = l; instructions = p.instructions + 1; last = last; stage = InCall; rules = p.rules })
       begun_sound = sound_moved p (at InCall) sound refl has.0.call (Instr t) allowed_here begun_to
 
--- the delivery of a fault's signal is begun
-module _ (p old : Engine) (is : p ≡ old) (t sig : ℕ) (sound : IsSound p) (rest : IsIdle p.kernel) (untold : p.kernel.tables.report ≡ nothing_told) (prompt : IsPrompt (view order p.kernel.tables))
-    (over : (view order p.kernel.tables).over ≡ None) (next : next_delivery (view order p.kernel.tables) ≡ Some (Gives t sig t)) (pending : (view order p.kernel.tables).pending ≡ one_pending t sig)
+-- the next delivery is begun
+module _ (p old : Engine) (is : p ≡ old) (d : Delivery) (sound : IsSound p) (rest : IsIdle p.kernel) (untold : p.kernel.tables.report ≡ nothing_told)
+    (over : (view order p.kernel.tables).over ≡ None) (next : next_delivery (view order p.kernel.tables) ≡ Some d)
     (l : KernelState Queue) (begun : IsBegun order p.kernel l (deliver (view order p.kernel.tables))) where
   abbrev delivering : Engine
   delivering = record { kernel = l; instructions = p.instructions; last = p.last; stage = InCall; rules = p.rules }
@@ -273,20 +279,15 @@ module _ (p old : Engine) (is : p ≡ old) (t sig : ℕ) (sound : IsSound p) (re
   here = moment_state p rest
 
   can_deliver : Allowed p.rules (moment_of p) Deliver
-  can_deliver = (ap (λ (s : State). s.over) here ∙ over, Gives t sig t, ap next_delivery here ∙ next)
+  can_deliver = (ap (λ (s : State). s.over) here ∙ over, d, ap next_delivery here ∙ next)
 
-  ready : ((view order p.kernel.tables).threads t).standing ≡ Ready
-  ready =
-      let one = pends_once (view order p.kernel.tables).pending t sig pending in
-      ready_is ((view order p.kernel.tables).threads t).standing (prompt t sig (omega (arith, one)))
-
-  head_is : (deliver (view order p.kernel.tables)).report.head ≡ DeliverHead t sig 1
-  head_is = sym (ap (λ (g : Outcome). g.report.head) (told_delivery (view order p.kernel.tables) t sig (view_plain order p.kernel.tables) ready next pending))
+  main : IsDeliveryMain (deliver (view order p.kernel.tables)).report.head
+  main = delivery_main (view order p.kernel.tables) d (subst IsGood here sound.good) next
 
   has : HasBegun order p.kernel l (deliver (view order p.kernel.tables))
   has =
       has_begun order p.kernel l (deliver (view order p.kernel.tables)) untold begun
-      (λ h. absurd (let e : Quiet ≡ DeliverHead t sig 1 = sym h ∙ head_is in cc))
+      (λ h. absurd (let e : false ≡ true = sym (ap is_delivery h) ∙ main.delivery in cc))
 
   delivers_to : moment_of delivering ≡ moved p.rules (moment_of p) Deliver
   delivers_to =
@@ -295,7 +296,7 @@ module _ (p old : Engine) (is : p ≡ old) (t sig : ℕ) (sound : IsSound p) (re
 
   pub delivers : Advances old (Begun p.last) (record { kernel = l; instructions = p.instructions; last = p.last; stage = InCall; rules = p.rules })
   delivers =
-      let counts = delivery_counts p.rules (moment_of p) p.last _ t sig 1 refl head_is in
+      let counts = delivery_counts p.rules (moment_of p) p.last _ refl main in
       (subst (λ x. BeginsMove x delivering) is (begins p delivering p.kernel refl Deliver _ has (ap deliver (sym here)) can_deliver refl delivers_to counts), ap (λ (x : Engine). x.last) is)
 
   pub delivers_sound : IsSound (record { kernel = l; instructions = p.instructions; last = p.last; stage = InCall; rules = p.rules })

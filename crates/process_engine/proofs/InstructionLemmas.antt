@@ -6,50 +6,43 @@ use Rattle.thread_base.specs.Orders.{is_nil}
 use Rattle.posix_model.specs.declared.Report.{Report}
 use Rattle.trace_text.specs.Output.{IsReadable}
 use Rattle.std.proofs.lemmas.List.{length-drop}
-use Rattle.thread_base.specs.Priority.{effective, first_greatest}
-use Rattle.thread_base.proofs.MapLemmas.{kept}
 use Rattle.rv_exec.specs.Meaning.{Effect}
 use Rattle.rv_exec.specs.declared.Event.{Event}
 use Rattle.rv_exec.specs.declared.Event.TheVariants.{Next, Ecall, Fault, Return}
 use Rattle.rv_exec.specs.declared.Special.{Special}
 use Rattle.rv_exec.specs.declared.Special.TheVariants.{Handler, Cleanup, Start}
 use Rattle.posix_model.specs.State.{State, Thread, Registers, Frame, Phase, Normal, Leaving, is_of_handler}
-use Rattle.posix_model.specs.Scheduling.{edge, eff, chosen}
+use Rattle.posix_model.specs.Scheduling.{chosen}
 use Rattle.posix_model.specs.Changes.{Outcome, begun, set_registers, set_thread}
-use Rattle.posix_model.specs.Deliveries.{faulted}
+use Rattle.posix_model.specs.Deliveries.{next_delivery, faulted}
 use Rattle.posix_model.specs.Instructions.{instruction, by_effect, returned, handler_returned, cleanup_returned, start_returned, told_return, segmentation_fault}
 use Rattle.posix_model.specs.Reports.{nothing_told}
 use Rattle.posix_model.specs.Calls.{call, call_row}
 use Rattle.posix_model.specs.declared.Arguments.{Arguments}
 use Rattle.posix_model.specs.declared.Head.{Head}
 use Rattle.posix_model.specs.declared.Head.TheVariants.{Quiet, Call, Ret, Fault as FaultHead}
-use Rattle.trace_text.specs.Counting.{is_delivery}
+use Rattle.trace_text.specs.Counting.{is_arrival, is_delivery}
 use Rattle.kernel_state.specs.View.{view, outcome}
 use Rattle.kernel_state.specs.Changing.{owed}
 use Rattle.kernel_state.specs.Executing.{HasExecuted, effect_at}
-use Rattle.kernel_state.specs.Begun.{CanBegin, IsBegun}
+use Rattle.kernel_state.specs.Begun.{CanBegin, HasRoom, IsBegun}
 use Rattle.kernel_state.specs.declared.change.Change.{Change}
 use Rattle.kernel_state.specs.Kernels.{KernelState, remaining, IsEmpty, IsIdle, told}
 use Rattle.kernel_state.specs.declared.kernel.MainLine.{MainLine}
+use Rattle.kernel_state.specs.declared.kernel.MainLine.TheVariants.{OfThread, Arrival}
 use Rattle.kernel_state.specs.declared.tables.Tables.{Tables}
 use Rattle.process_engine.specs.Engine.{HasTurn}
 use Rattle.process_engine.specs.Advancing.{HasGoneOn, HasBegun, BeginsInstruction}
+use Rattle.posix_model.proofs.PlainLemmas.{plain_instructions_leave}
 use Rattle.process_engine.proofs.ReadableLemmas.{untold_readable, owed_readable}
 
--- registers and memory count for no priority
-chosen_stays : (s : State) (t : ℕ) (registers : Registers) (memory : List ℕ) → chosen (record (set_registers s t registers) { memory = memory }) ≡ chosen s
-unfolding chosen eff
-chosen_stays s t registers memory =
-    let own_stays = λ (u : ℕ). kept (λ (x : Thread). x.base) s.threads t u (record (s.threads t) { registers = registers }) refl in
-    λ i. first_greatest (λ u. effective (λ v. own_stays v i) (edge s) u) s.ready
-
 -- an instruction of the thread in place, which has its turn, up to what its event asks for
-module _ {R : Type 0} (order : R → List ℕ) (k q : KernelState R) (idle : IsIdle k) (turn : HasTurn order k) (placed : q.tables.placed ≡ k.tables.placed) (others : q ≡ record k { tables = q.tables }) where
+module _ {R : Type 0} (order : R → List ℕ) (k q : KernelState R) (idle : IsIdle k) (turn : HasTurn order k) (placed : q.tables.records.placed ≡ k.tables.records.placed) (others : q ≡ record k { tables = q.tables }) where
   abbrev s : State
   s = view order k.tables
 
   abbrev t : ℕ
-  t = k.tables.placed
+  t = k.tables.records.placed
 
   still_idle : IsIdle q
   still_idle = record {
@@ -58,7 +51,7 @@ module _ {R : Type 0} (order : R → List ℕ) (k q : KernelState R) (idle : IsI
   }
 
   -- a plain one
-  pub goes_on : HasExecuted (view order k.tables) k.tables.placed Next (view order q.tables) → HasGoneOn order k q
+  pub goes_on : HasExecuted (view order k.tables) k.tables.records.placed Next (view order q.tables) → HasGoneOn order k q
   unfolding instruction
   goes_on h =
       let registers = h.0 in
@@ -69,18 +62,18 @@ module _ {R : Type 0} (order : R → List ℕ) (k q : KernelState R) (idle : IsI
         rest = still_idle;
         turn = record {
           going_on = ap (λ (x : State). x.over) h.3 ∙ turn.going_on;
-          calm = ap (λ (x : State). x.pending) h.3 ∙ turn.calm;
-          first = ap chosen h.3 ∙ chosen_stays s t h.0 h.1 ∙ turn.first ∙ ap Some (sym placed);
+          settled = ap next_delivery h.3 ∙ (plain_instructions_leave s t h.0 h.1).1 ∙ turn.settled;
+          first = ap chosen h.3 ∙ (plain_instructions_leave s t h.0 h.1).0 ∙ turn.first ∙ ap Some (sym placed);
         };
         placed = placed;
       }
 
   -- another leaves the machine, and its move can begin
-  pub can_begin : view order q.tables ≡ view order k.tables → CanBegin order q q.tables.placed
-  can_begin same = record {
+  pub can_begin : view order q.tables ≡ view order k.tables → HasRoom (view order k.tables) → CanBegin order q q.tables.records.placed
+  can_begin same room = record {
     idle = still_idle;
     going_on = ap (λ (x : State). x.over) same ∙ turn.going_on;
-    calm = ap (λ (x : State). x.pending) same ∙ turn.calm;
+    few = subst HasRoom (sym same) room;
     first = ap chosen same ∙ turn.first ∙ ap Some (sym placed);
   }
 
@@ -94,16 +87,17 @@ stays s r t (Return which) h asks = h.1
 -- its main line is that of a call, of a fault or of a return
 pub record IsMain (head : Head) : Type 0 where
   told : head ≡ Quiet → ⊥
-  kind : is_delivery head ≡ false
+  no_arrival : is_arrival head ≡ false
+  no_delivery : is_delivery head ≡ false
 
 pub call_main : (s : State) (t number : ℕ) (c : Arguments) → IsMain (call s t number c).report.head
-call_main s t number c = record { told = λ h. (let e : Call number (c.a0 ∷ c.a1 ∷ c.a2 ∷ c.a3 ∷ []) (call_row s t number c).reply ≡ Quiet = h in absurd (cc)); kind = refl }
+call_main s t number c = record { told = λ h. (let e : Call number (c.a0 ∷ c.a1 ∷ c.a2 ∷ c.a3 ∷ []) (call_row s t number c).reply ≡ Quiet = h in absurd (cc)); no_arrival = refl; no_delivery = refl }
 
 pub fault_main : (sig : ℕ) → IsMain (FaultHead sig)
-fault_main sig = record { told = λ h. absurd (cc); kind = refl }
+fault_main sig = record { told = λ h. absurd (cc); no_arrival = refl; no_delivery = refl }
 
 made_main : (which : Special) → IsMain (Ret which)
-made_main which = record { told = λ h. absurd (cc); kind = refl }
+made_main which = record { told = λ h. absurd (cc); no_arrival = refl; no_delivery = refl }
 
 by_test : (b : Bool) (x y : Outcome) → IsMain x.report.head → IsMain y.report.head → IsMain (if b then x else y).report.head
 by_test true x y first second = first
@@ -145,7 +139,8 @@ some_remaining (change ∷ rest) e = omega arith
 -- the main line of a move counts for nothing where its bytes are read
 told_readable : (main : Option MainLine) (r : Report) (memory : List ℕ) → IsReadable r memory → IsReadable (told main r) memory
 told_readable None r memory h = h
-told_readable (Some main) r memory h = h
+told_readable (Some (OfThread t head)) r memory h = h
+told_readable (Some (Arrival head at)) r memory h = h
 
 -- a move was begun where nothing was told yet
 pub has_begun : {R : Type 0} (order : R → List ℕ) (k q : KernelState R) (g : Outcome) → k.tables.report ≡ nothing_told → IsBegun order k q g → (g.report.head ≡ Quiet → ⊥)
@@ -171,4 +166,4 @@ by_event s t effect e = sym (ap (by_effect s t) e)
 
 pub begun_by : {R : Type 0} (order : R → List ℕ) (k q : KernelState R) (g h : Outcome) → k.tables.report ≡ nothing_told → IsBegun order k q g → IsMain g.report.head → g ≡ h
     → BeginsInstruction order k q h
-begun_by order k q g h untold begun main e = subst (BeginsInstruction order k q) e (has_begun order k q g untold begun main.told, main.kind)
+begun_by order k q g h untold begun main e = subst (BeginsInstruction order k q) e (has_begun order k q g untold begun main.told, main.no_arrival, main.no_delivery)

@@ -1,5 +1,6 @@
 pub mod ReadableLemmas
 pub mod CountLemmas
+pub mod DeliveryLemmas
 pub mod InstructionLemmas
 pub mod EngineLemmas
 pub mod StepLemmas

@@ -2,7 +2,13 @@
 use Rattle.std.proofs.Common.{◌≡◌, ap, subst, sym, refl, ℕ, Bool, true, false, List, [], ◌∷◌, Option, Some, None, arith}
 use Rattle.std.specs.Prelude.{if◌then◌else◌}
 use Rattle.thread_base.specs.Holders.{is_free}
+use Rattle.thread_base.specs.Actions.{ignores}
+use Rattle.thread_base.specs.Maps.{put}
+use Rattle.thread_base.specs.declared.action.Action.{Action}
 use Rattle.posix_model.specs.State.{State, Mutex}
+use Rattle.posix_model.specs.Deliveries.{left_of}
+use Rattle.posix_model.specs.Arrivals.{dropped}
+use Rattle.posix_model.specs.SignalCalls.{forgotten, with_action}
 use Rattle.posix_model.specs.Changes.{Outcome}
 use Rattle.posix_model.specs.Mutexes.{give, requeue, retake_of}
 use Rattle.posix_model.specs.Leaving.{over_with_last, without_thread}
@@ -15,7 +21,8 @@ use Rattle.posix_model.specs.declared.RetakeReply.TheVariants.{Answer as AnswerB
 use Rattle.trace_text.specs.Output.{IsReadable}
 use Rattle.kernel_state.specs.Changing.{Can, change_by, thread_change_by, remains_of, owed, AllCan}
 use Rattle.kernel_state.specs.declared.change.Change.{Change}
-use Rattle.kernel_state.specs.declared.change.Change.TheVariants.{Thread, Retake, Output}
+use Rattle.kernel_state.specs.declared.change.Change.TheVariants.{Thread, Signal, Retake, Output}
+use Rattle.kernel_state.specs.declared.change.SignalChange.TheVariants.{Act}
 use Rattle.kernel_state.specs.declared.change.ThreadChange.{ThreadChange}
 use Rattle.kernel_state.specs.declared.change.ThreadChange.TheVariants.{End}
 
@@ -52,9 +59,19 @@ retake_readable g m (Some mutex) t count reply h = by (is_free mutex.holder)
     by true = give_readable g m mutex t count reply h
     by false = h
 
+acted_readable : (action : Action) (sig : ℕ) (g : Outcome) → Readable g → Readable (with_action g sig action)
+acted_readable action sig g h = by (ignores action sig)
+  where
+    by : (b : Bool) → Readable (if b
+    then dropped (record g { state = record g.state { actions = put g.state.actions sig action; pending = forgotten sig g.state.pending } }) sig (left_of g.state sig)
+    else record g { state = record g.state { actions = put g.state.actions sig action } })
+    by true = h
+    by false = h
+
 change_readable : (change : Change) (g : Outcome) → Can change g → Readable g → Readable (change_by change g)
 change_readable (Thread t change) g can h = thread_readable change t g h
 change_readable (Retake t m count reply) g can h = retake_readable g m (g.state.mutexes m) t count reply h
+change_readable (Signal sig (Act action)) g can h = acted_readable action sig g h
 change_readable (Output descriptor buffer size) g can h = λ some. can
 change_readable change g can h = h
 

@@ -11,7 +11,7 @@ use Rattle.posix_model.specs.declared.Ending.{Ending}
 use Rattle.posix_model.specs.declared.Head.{Head}
 use Rattle.posix_model.specs.declared.Head.TheVariants.{Quiet}
 use Rattle.posix_model.specs.declared.Report.{Report}
-use Rattle.trace_text.specs.Counting.{no_counts, is_delivery, counted, counts, told_of, told_by as added_by}
+use Rattle.trace_text.specs.Counting.{no_counts, is_arrival, is_delivery, counted, counts, told_of, told_by as added_by}
 use Rattle.trace_text.specs.declared.tally.Counts.{Counts}
 use Rattle.kernel_state.specs.View.{view}
 use Rattle.kernel_state.specs.Kernels.{KernelState, remaining, IsIdle, owed_by}
@@ -22,11 +22,11 @@ use Rattle.process_engine.specs.declared.stage.Stage.TheVariants.{Going, InCall}
 
 -- the thread in place made its instruction, which tells nothing, and still has its turn
 pub record HasGoneOn {R : Type 0} (order : R → List ℕ) (k q : KernelState R) : Type 0 where
-  pub state : view order q.tables ≡ (instruction (view order k.tables) k.tables.placed).state
-  pub tells : (instruction (view order k.tables) k.tables.placed).report ≡ record nothing_told { tid = k.tables.placed }
+  pub state : view order q.tables ≡ (instruction (view order k.tables) k.tables.records.placed).state
+  pub tells : (instruction (view order k.tables) k.tables.records.placed).report ≡ record nothing_told { tid = k.tables.records.placed }
   pub rest : IsIdle q
   pub turn : HasTurn order q
-  pub placed : q.tables.placed ≡ k.tables.placed
+  pub placed : q.tables.records.placed ≡ k.tables.records.placed
 
 -- a move was begun that has a main line: it owes the machine this outcome, in 512 small changes at most, and the
 -- tables show what they showed
@@ -38,14 +38,14 @@ pub record HasBegun {R : Type 0} (order : R → List ℕ) (k q : KernelState R) 
   pub shown : view order q.tables ≡ view order k.tables
   pub main : g.report.head ≡ Quiet → ⊥
 
--- the same of an instruction: its main line is not that of a delivery
+-- the same of an instruction: its main line is that of no arrival and of no delivery
 abbrev pub BeginsInstruction : {R : Type 0} → (R → List ℕ) → KernelState R → KernelState R → Outcome → Type 0
-BeginsInstruction order k q g = HasBegun order k q g × (is_delivery g.report.head ≡ false)
+BeginsInstruction order k q g = HasBegun order k q g × (is_arrival g.report.head ≡ false) × (is_delivery g.report.head ≡ false)
 
 -- the thread in place made its instruction where it was a plain one, and else its move was begun
 abbrev pub Instructs : {R : Type 0} → (R → List ℕ) → KernelState R → Bool → KernelState R → Type 0
 Instructs order k true q = HasGoneOn order k q
-Instructs order k false q = BeginsInstruction order k q (instruction (view order k.tables) k.tables.placed)
+Instructs order k false q = BeginsInstruction order k q (instruction (view order k.tables) k.tables.records.placed)
 
 -- a move was made, or begun, that has its turn, with what it counts beside its instruction
 pub record MakesMove (p q : Engine) (head : Head) : Type 0 where

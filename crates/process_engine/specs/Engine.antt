@@ -2,7 +2,9 @@
 use Rattle.std.specs.Prelude.{ℕ, ◌≡◌, ◌≤◌, List, length, Option, Some, None}
 use Rattle.journal_text.specs.Contents.{empty}
 use Rattle.ready_queues.specs.Queue.{Queue}
-use Rattle.posix_model.specs.State.{State, none_pending}
+use Rattle.posix_model.specs.State.{State}
+use Rattle.posix_model.specs.Deliveries.{next_delivery}
+use Rattle.posix_model.specs.Laws.{IsBounded}
 use Rattle.posix_model.specs.Scheduling.{chosen}
 use Rattle.posix_model.specs.Changes.{Outcome}
 use Rattle.posix_model.specs.Runs.{Rules, Moment}
@@ -67,8 +69,8 @@ position_of p = record {
 -- the thread whose registers are in place has its turn
 pub record HasTurn {R : Type 0} (order : R → List ℕ) (k : KernelState R) : Type 0 where
   pub going_on : (view order k.tables).over ≡ None
-  pub calm : (view order k.tables).pending ≡ none_pending
-  pub first : chosen (view order k.tables) ≡ Some k.tables.placed
+  pub settled : next_delivery (view order k.tables) ≡ None
+  pub first : chosen (view order k.tables) ≡ Some k.tables.records.placed
 
 -- a move is in progress, and its lines can be written
 pub record IsInCall {R : Type 0} (order : R → List ℕ) (k : KernelState R) : Type 0 where
@@ -77,14 +79,16 @@ pub record IsInCall {R : Type 0} (order : R → List ℕ) (k : KernelState R) : 
 
 -- what the stage of a process says of its kernel and of the thread of the last instruction
 abbrev pub Stands : {R : Type 0} → (R → List ℕ) → KernelState R → Option ℕ → Stage → Type 0
-Stands order k last Going = IsIdle k × HasTurn order k × (last ≡ Some k.tables.placed)
+Stands order k last Going = IsIdle k × HasTurn order k × (last ≡ Some k.tables.records.placed)
 Stands order k last Paused = IsIdle k
 Stands order k last InCall = IsInCall order k
 
--- what holds of every process: it is within its budget, its journal has no entry, and the state of its run is good
+-- what holds of every process: it is within its budget, its journal has no entry, the state of its run is good, and no more
+-- pends than instructions brought
 pub record IsSound (p : Engine) : Type 0 where
   pub within : p.instructions ≤ p.rules.settings.budget
   pub limit : p.rules.settings.budget ≤ 1000000000
   pub journal : p.rules.journal ≡ empty
   pub good : IsGood (owed_of p).state
+  pub bounded : IsBounded (moment_of p)
   pub stands : Stands order p.kernel p.last p.stage

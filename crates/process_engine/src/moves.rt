@@ -4,7 +4,7 @@ ghost use Rattle.posix_model.specs.Calls.{call as call_of, call_number, argument
 ghost use Rattle.posix_model.specs.Reports.{nothing_told};
 ghost use Rattle.posix_model.specs.Instructions.{instruction};
 ghost use Rattle.kernel_state.specs.View.{view};
-ghost use Rattle.kernel_state.specs.Begun.{CanBegin, IsBegun, arguments_of};
+ghost use Rattle.kernel_state.specs.Begun.{CanBegin, HasRoom, IsBegun, arguments_of};
 ghost use Rattle.kernel_state.specs.Executing.{HasExecuted};
 ghost use Rattle.kernel_state.specs.Kernels.{IsIdle};
 ghost use Rattle.process_engine.specs.Engine.{HasTurn};
@@ -61,6 +61,7 @@ fn begin_move<R: Ready + Drop>(k: &mut Kernel<R>, t: Tid, event: Event)
 pub(crate) fn make_instruction<R: Ready + Drop>(k: &mut Kernel<R>) -> bool
     requires idle { IsIdle k.old }
     requires turn { HasTurn R.order k.old }
+    requires room { HasRoom (view R.order k.old.tables) }
     ensures { Instructs R.order k.old result k.new }
 {
     match k.execute() {

@@ -2,7 +2,7 @@ ghost use Rattle.std.specs.Prelude.{◌≡◌, ◌<◌, ◌≤◌, ◌++◌, ℕ
 ghost use Rattle.posix_model.specs.Start.{start};
 ghost use Rattle.posix_model.specs.Trace.{switch_line};
 ghost use Rattle.posix_model.specs.Lines.{lines};
-ghost use Rattle.posix_model.specs.State.{none_pending};
+ghost use Rattle.posix_model.specs.Deliveries.{next_delivery};
 ghost use Rattle.posix_model.specs.Scheduling.{chosen};
 ghost use Rattle.replay_io.specs.Writing.{Writes};
 ghost use Rattle.trace_text.specs.Output.{IsReadable};
@@ -15,6 +15,7 @@ use crate::moves::make_instruction;
 use crate::stage::{Advance, Stage};
 use crate::told::{is_thread, with_move};
 use crate::{Done, Turn, WriteFault};
+use dispatcher::begin_delivery;
 use elf_image::EntryPoint;
 use kernel_state::{Kernel, Stepped, Tables};
 use posix_model::{Ending, Head, Report, Settings};
@@ -100,7 +101,7 @@ impl Process {
     /// Makes the first instruction of a thread's turn, which is the chosen one, or begins its move.
     fn switch_to(&mut self, t: Tid) -> Advance
         requires rest { self.old.stage ≡ Stage.Paused }
-        requires calm { (view order self.old.kernel.tables).pending ≡ none_pending }
+        requires settled { next_delivery (view order self.old.kernel.tables) ≡ None }
         requires going_on { (view order self.old.kernel.tables).over ≡ None }
         requires chosen { chosen (view order self.old.kernel.tables) ≡ Some t }
         ensures advances { Advances self.old result self.new }
@@ -122,7 +123,7 @@ impl Process {
         Advance::Begun(before)
     }
 
-    /// Sees how the run goes on: it is over, a fault's signal is delivered, nobody can go on, or the chosen
+    /// Sees how the run goes on: it is over, a signal is delivered, nobody can go on, or the chosen
     /// thread has its turn.
     fn resume(&mut self) -> Advance
         requires { self.old.stage ≡ Stage.Paused }
@@ -134,9 +135,9 @@ impl Process {
             Some(ending) => return Advance::End(ending),
             None => {}
         }
-        match self.kernel.tables().fault() {
-            Some(fault) => {
-                self.kernel.begin_delivery(fault);
+        match self.kernel.tables().next_delivery() {
+            Some((t, s, of_process)) => {
+                begin_delivery(&mut self.kernel, t, s, of_process);
                 self.stage = Stage::InCall;
                 return Advance::Begun(self.last);
             }

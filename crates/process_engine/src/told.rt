@@ -1,6 +1,6 @@
 ghost use Rattle.std.specs.Prelude.{◌≡◌, ◌≤◌, ◌+◌};
 ghost use Rattle.posix_model.specs.Trace.{is_last};
-ghost use Rattle.trace_text.specs.Counting.{is_call as is_call_line, is_delivery as is_delivery_line, is_switch as is_switch_line, plus, told_by};
+ghost use Rattle.trace_text.specs.Counting.{is_call as is_call_line, is_arrival as is_arrival_line, is_delivery as is_delivery_line, is_switch as is_switch_line, plus, told_by};
 
 use posix_model::Head;
 use thread_base::Tid;
@@ -36,12 +36,28 @@ fn is_call(head: &Head) -> bool
     }
 }
 
+/// Whether a main line is that of an arrival.
+fn is_arrival(head: &Head) -> bool
+    ensures { result ≡ is_arrival_line head.now }
+{
+    match head {
+        Head::ArriveSig { .. }
+        | Head::ArriveTick { .. }
+        | Head::ArriveData { .. }
+        | Head::ArriveEof { .. } => true,
+        _ => false,
+    }
+}
+
 /// Whether a main line is that of a delivery.
 fn is_delivery(head: &Head) -> bool
     ensures { result ≡ is_delivery_line head.now }
 {
     match head {
-        Head::Deliver { .. } => true,
+        Head::Deliver { .. }
+        | Head::Accept { .. }
+        | Head::Interrupt { .. }
+        | Head::Cancel { .. } => true,
         _ => false,
     }
 }
@@ -53,13 +69,13 @@ pub(crate) fn with_move(
     after: &Option<Tid>,
     head: &Head,
 ) -> Counts
-    requires { told.calls + told.deliveries + told.switches ≤ 9000012006615 }
+    requires { told.calls + told.arrivals + told.deliveries + told.switches ≤ 9000012006615 }
     ensures { result ≡ plus told (told_by before.now after.now head.now) }
 {
     Counts {
         instructions: told.instructions,
         calls: told.calls + u64::from(is_call(head)),
-        arrivals: told.arrivals,
+        arrivals: told.arrivals + u64::from(is_arrival(head)),
         deliveries: told.deliveries + u64::from(is_delivery(head)),
         switches: told.switches + u64::from(is_switch(before, after)),
     }

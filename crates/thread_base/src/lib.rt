@@ -406,7 +406,10 @@ mod tests {
         assert_eq!(rt; SigSet::of(0xfffc_0202).word(), 0xff80_0002);
         let set = SigSet::of(1 << 10).with(Sig::of(12));
         assert_eq!(rt; set.word(), 1 << 10 | 1 << 12);
-        assert_eq!(rt; set.union(SigSet::of(1 << 2)).word(), 1 << 2 | 1 << 10 | 1 << 12);
+        assert_eq!(rt;
+            set.union(SigSet::of(1 << 2)).word(),
+            1 << 2 | 1 << 10 | 1 << 12
+        );
         assert_eq!(rt; set.without(SigSet::of(1 << 10)).word(), 1 << 12);
         assert!(rt; Place { n: 3, k: 9 } < Place { n: 4, k: 0 });
         assert!(rt; Place { n: 4, k: 0 } < Place { n: 4, k: 1 });

@@ -5,7 +5,7 @@ use Rattle.posix_model.specs.Trace.{is_last}
 use Rattle.posix_model.specs.declared.Move.{Move}
 use Rattle.posix_model.specs.declared.Move.TheVariants.{Instr, Arrive, Deliver}
 use Rattle.posix_model.specs.declared.Head.{Head}
-use Rattle.posix_model.specs.declared.Head.TheVariants.{Call, Deliver as DeliverHead}
+use Rattle.posix_model.specs.declared.Head.TheVariants.{Call, ArriveSig, ArriveTick, ArriveData, ArriveEof, Deliver as DeliverHead, Accept, Interrupt, Cancel}
 use Rattle.trace_text.specs.declared.tally.Counts.{Counts}
 
 -- nothing was done
@@ -31,9 +31,20 @@ abbrev pub is_call : Head → Bool
 is_call (Call number args reply) = true
 is_call head = false
 
+-- a main line is that of an arrival
+abbrev pub is_arrival : Head → Bool
+is_arrival (ArriveSig first count sig) = true
+is_arrival (ArriveTick first) = true
+is_arrival (ArriveData first len) = true
+is_arrival (ArriveEof first) = true
+is_arrival head = false
+
 -- a main line is that of a delivery
 abbrev pub is_delivery : Head → Bool
 is_delivery (DeliverHead to sig count) = true
+is_delivery (Accept to sig count) = true
+is_delivery (Interrupt to sig count) = true
+is_delivery (Cancel to) = true
 is_delivery head = false
 
 -- a line names the thread that goes on: by the threads of the last instruction before and after a move
@@ -67,7 +78,7 @@ abbrev pub told_by : Option ℕ → Option ℕ → Head → Counts
 told_by before after head = record {
   instructions = 0;
   calls = one_if (is_call head);
-  arrivals = 0;
+  arrivals = one_if (is_arrival head);
   deliveries = one_if (is_delivery head);
   switches = one_if (is_switch before after);
 }

@@ -1,4 +1,4 @@
-use Rattle.std.proofs.Common.{◌∙◌, ap, sym, subst, ℕ}
+use Rattle.std.proofs.Common.{sym, subst}
 use Rattle.posix_model.specs.Calls.{Called, told_call, row_of, sync_calls}
 use Rattle.posix_model.proofs.TableLemmas.{sync_row}
 use Rattle.kernel_state.specs.View.{view}

@@ -1,6 +1,5 @@
 use Rattle.std.proofs.Common.{◌≡◌, ap, sym, subst, arith, Some, true, is_some, length}
 use Rattle.posix_model.specs.State.{State}
-use Rattle.posix_model.specs.Good.{IsGood}
 use Rattle.posix_model.specs.Changes.{Outcome, begun}
 use Rattle.posix_model.specs.ConditionCalls.{await_condition}
 use Rattle.posix_model.specs.Mutexes.{best_waiter, hand_off}

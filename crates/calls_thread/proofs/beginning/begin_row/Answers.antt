@@ -1,11 +1,11 @@
 use Rattle.std.proofs.Common.{subst}
 use Rattle.posix_model.specs.Calls.{Called}
+use Rattle.posix_model.specs.Good.{IsGood}
+use Rattle.posix_model.proofs.GoodMoves.{instructions_keep_good}
 use Rattle.posix_model.proofs.TableLemmas.{thread_row}
 use Rattle.kernel_state.specs.View.{view}
-use Rattle.kernel_state.specs.Kernels.{IsSteady}
 use Rattle.kernel_state.proofs.KernelLemmas.{rests, can_note}
 use Rattle.kernel_state.proofs.NoteLemmas.{can_start}
-use Rattle.kernel_state.proofs.SteadyLemmas.{steady_call}
 use Rattle.calls_thread.proofs.beginning.begin_row.Goals as goal
 
 pub row-reply-requires : goal.row-reply-requires
@@ -19,6 +19,6 @@ begin_move-requires g c =
     let t = c.args.t in
     let n = c.args.number in
     let a = c.arguments_from.result in
-    let good = (rests order g.R.Ready.prio k c.tables-sound.ensures.sound c.requires.ready.idle.main).0.good in
-    let row = steady_call s t good c.requires.ready.first c.requires.ready.calm n a in
-    can_start order k c.row-reply.new.k _ c.row-reply.ensures.noted (subst (λ (x : Called). IsSteady x.outcome.state) (thread_row s t n a c.requires.here) row)
+    let good = (rests order g.R.Ready.prio k c.tables-sound.ensures.sound c.requires.ready.idle.main).0 in
+    can_start order k c.row-reply.new.k _ c.row-reply.ensures.noted
+    (subst (λ (x : Called). IsGood x.outcome.state) (thread_row s t n a c.requires.here) ((instructions_keep_good s t good c.requires.ready.first).1 n a))

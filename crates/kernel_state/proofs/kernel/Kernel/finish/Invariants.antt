@@ -11,6 +11,7 @@ invariant-loop-self g l =
     × (l.self-inside.main ≡ l.fn.self.main)
     × (l.self-inside.settings ≡ l.fn.self.settings)
     × StayCurrent g.R.Ready.order g.R.Ready.prio l.fn.self.tables l.self-inside.tables
+    × (l.self-inside.outside ≡ l.fn.self.outside)
 
 abbrev pub decreases-loop-self : goal.decreases-loop-self
 decreases-loop-self g l = length (remaining l.self-inside.rest)

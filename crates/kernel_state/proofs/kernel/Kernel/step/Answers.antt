@@ -37,7 +37,7 @@ returns-then-is_empty-clause-step g c =
     nothing made.current all.current all.view all.untold all.empty all.main c.take_report.result all.report in
     let last = makes_last order prios _ c.self.invariant on c.make_next.new.tables c.take_report.new.tables c.make_next.new.rest c.take_report.new.rest c.take_report.new.main same
     nothing made.current all.current all.view all.untold all.empty all.main made.made in
-    let done : KernelState _ = record { tables = c.take_report.new.tables; rest = c.take_report.new.rest; main = c.take_report.new.main; settings = c.self.inside.settings } in
+    let done : KernelState _ = record { tables = c.take_report.new.tables; rest = c.take_report.new.rest; main = c.take_report.new.main; outside = c.self.inside.outside; settings = c.self.inside.settings } in
     subst (λ (x : KernelState _). IsStep order x (Exit c.take_report.result) done) c.self.view_is (told, last)
 
 pub returns-then-is_empty-clause-small : goal.returns-then-is_empty-clause-small

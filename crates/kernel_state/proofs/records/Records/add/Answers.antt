@@ -34,4 +34,3 @@ invariant_of-self c =
 
 pub returns-clause-threads : goal.returns-clause-threads
 returns-clause-threads c = shown c ∙ ap (λ r. put (threads_in r) c.args.t (thread_in c.args.known [])) c.self.view_is
-

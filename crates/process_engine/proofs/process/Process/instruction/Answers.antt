@@ -2,7 +2,7 @@ use Rattle.std.proofs.Common.{◌∙◌, ap, refl}
 use Rattle.process_engine.specs.Engine.{Engine}
 use Rattle.process_engine.specs.declared.stage.Stage.TheVariants.{Going}
 use Rattle.process_engine.specs.contracts.process.Process.{the_view}
-use Rattle.process_engine.proofs.EngineLemmas.{stands_at, going_turn, is_spent, goes_plain, goes_begun, plain_sound, begun_sound}
+use Rattle.process_engine.proofs.EngineLemmas.{stands_at, has_room, going_turn, is_spent, goes_plain, goes_begun, plain_sound, begun_sound}
 use Rattle.process_engine.proofs.process.Process.instruction.Goals as goal
 
 pub returns-then-self-clause-advances : goal.returns-then-self-clause-advances
@@ -15,7 +15,7 @@ pub make_instruction-requires : goal.make_instruction-requires
 make_instruction-requires c =
     let p = the_view c.self.inside in
     let on = stands_at p Going c.self.invariant (ap (λ (x : Engine). x.stage) c.self.view_is ∙ c.requires) in
-    record { idle = on.0; turn = on.1 }
+    record { idle = on.0; turn = on.1; room = has_room p c.self.inside.kernel c.self.invariant on.0 refl }
 
 pub returns-then-make_instruction-clause-advances : goal.returns-then-make_instruction-clause-advances
 returns-then-make_instruction-clause-advances c =

@@ -1,7 +1,7 @@
 use Rattle.std.proofs.Common.{arith, subst}
 use Rattle.kernel_state.specs.Begun.{NotesMore}
 use Rattle.calls_thread.proofs.OrphanLemmas.{found_still, within_still, none_still, noted_none, noted_below, noted_all}
-use Rattle.calls_thread.proofs.returns.note_orphans.Goals as goal
+use Rattle.calls_thread.proofs.ending.note_orphans.Goals as goal
 
 pub loop-m-init : goal.loop-m-init
 loop-m-init g c = noted_none g.R.Ready.order c.args.k.now c.args.t c.requires

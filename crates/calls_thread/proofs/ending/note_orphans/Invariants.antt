@@ -1,6 +1,6 @@
 use Rattle.std.proofs.Common.{◌-◌}
 use Rattle.calls_thread.proofs.OrphanLemmas.{HasNotedBelow}
-use Rattle.calls_thread.proofs.returns.note_orphans.Given as goal
+use Rattle.calls_thread.proofs.ending.note_orphans.Given as goal
 
 abbrev pub invariant-loop-m : goal.invariant-loop-m
 invariant-loop-m g l = HasNotedBelow g.R.Ready.order l.fn.k l.k l.t l.from
