@@ -14,6 +14,7 @@ use Rattle.posix_model.specs.Leaving.{exit_with}
 use Rattle.posix_model.specs.Scheduling.{chosen}
 use Rattle.posix_model.specs.declared.Head.TheVariants.{Ret}
 use Rattle.posix_model.proofs.GoodMoves.{instructions_keep_good}
+use Rattle.kernel_state.specs.declared.kernel.MainLine.TheVariants.{OfThread}
 use Rattle.kernel_state.specs.Begun.{HasNotedSome, CanStart, IsBegun}
 use Rattle.kernel_state.specs.Kernels.{KernelState}
 use Rattle.kernel_state.specs.Records.{left_by, top_kind}
@@ -82,5 +83,5 @@ module _ {R : Type 0} (order : R → List ℕ) (k q : KernelState R) (t : ℕ) (
   return_starts good first =
       can_start order k q g noted (subst (λ (x : Outcome). IsGood x.state) due ((instructions_keep_good (view order k.tables) t good first).2 which))
 
-  pub return_begun : (r : KernelState R) → r ≡ record q { main = Some (record { thread = t; head = Ret which }) } → IsBegun order k r (returned (view order k.tables) t which)
-  return_begun r begun = subst (IsBegun order k r) (sym due) (begun_by order k q g noted r (record { thread = t; head = Ret which }) begun)
+  pub return_begun : (r : KernelState R) → r ≡ record q { main = Some (OfThread t (Ret which)) } → IsBegun order k r (returned (view order k.tables) t which)
+  return_begun r begun = subst (IsBegun order k r) (sym due) (begun_by order k q g noted r (OfThread t (Ret which)) begun)

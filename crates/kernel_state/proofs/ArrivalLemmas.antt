@@ -1,9 +1,9 @@
 -- What is drained may arrive, and where nothing is left every entry that was presented is taken.
-use Rattle.std.proofs.Common.{◌≡◌, ◌∙◌, refl, sym, ap, subst, arith, inl, inr, ℕ, zero, suc, ◌+◌, ◌-◌, ◌<◌, ◌≤◌, Bool, true, false, cond, List, [], ◌∷◌, ◌++◌, length, take, drop, filter, Option, Some, None}
+use Rattle.std.proofs.Common.{◌≡◌, ◌∙◌, refl, sym, ap, subst, arith, inl, inr, ℕ, zero, suc, ◌+◌, ◌-◌, ◌<◌, ◌≤◌, Bool, true, false, List, [], ◌∷◌, ◌++◌, length, take, drop, filter, Option, Some, None}
 use Rattle.std.specs.Prelude.{◌==◌, ◌||◌, ◌&&◌, slice_get}
 use Rattle.std.specs.List.{AllByRecursion, list_any, range_with_len}
-use Rattle.std.proofs.lemmas.Bool.{cases_Bool, cases_eq, cond-true, cond-false, or_parts, or_cases, or_left, eq-eqb, ne_eqb, eqb-true}
-use Rattle.std.proofs.lemmas.Option.{same_Some, slice_get_within}
+use Rattle.std.proofs.lemmas.Bool.{cases_eq, cond-false, or_left, eq-eqb, ne_eqb}
+use Rattle.std.proofs.lemmas.Option.{same_Some}
 use Rattle.std.proofs.lemmas.List.{length-append, length-drop}
 use Rattle.thread_base.specs.Orders.{is_in}
 use Rattle.thread_base.proofs.SearchLemmas.{range_in}
@@ -13,14 +13,14 @@ use Rattle.journal_text.specs.declared.entry.Entry.{Entry}
 use Rattle.unix_process.specs.declared.UnixEvent.{UnixEvent}
 use Rattle.unix_process.specs.declared.Taken.{Taken}
 use Rattle.unix_process.specs.Merging.{IsEvent, one_entry, merged}
-use Rattle.posix_model.specs.Journals.{Kind, kind_of, with_taken, numbers_from, left_of_kind, entry_at, is_left_as, untaken, reached}
+use Rattle.posix_model.specs.Journals.{Kind, kind_of, is_kind, with_taken, numbers_from, left_of_kind, entry_at, is_left_as, untaken, reached}
 use Rattle.posix_model.specs.Runs.{Rules, Moment, due, due_by, is_waiting, taken_by, moved, IsAlone, MayArrive}
 use Rattle.posix_model.specs.declared.Move.TheVariants.{Arrive}
 use Rattle.posix_model.proofs.JournalLemmas.{is_kind_refl, place_in, left_entry, in_untaken, untaken_from, reached_from}
-use Rattle.kernel_state.specs.Outside.{OutsideState, event_of, drained, drained_of, left_drained, drain, is_nothing}
-use Rattle.kernel_state.specs.Presented.{kind_of_event, StandsFor, Stands, AreDue}
+use Rattle.kernel_state.specs.Outside.{OutsideState, event_of, is_of, drained, drained_of, left_drained, drain, is_nothing}
+use Rattle.kernel_state.specs.Presented.{kind_of_event, event_of_kind, StandsFor, Stands, IsOfEntry, AreDue}
 use Rattle.kernel_state.proofs.NumberLemmas.{get_drop, get_in, all_take, get_some, filter_range, early, numbers_split, not_below, number_in}
-use Rattle.kernel_state.proofs.PresentedLemmas.{event_of_kind, back_to_kind, first_slot, slot_fits, stands_drained, stands_accepted, stands_logged, IsPart, is_part}
+use Rattle.kernel_state.proofs.PresentedLemmas.{back_to_kind, kind_event, first_slot, slot_fits, stands_drained, stands_accepted, stands_logged, IsPart, is_part}
 
 -- ---- which entries are due
 
@@ -161,6 +161,28 @@ module _ (o : OutsideState) (taken : Kind → ℕ) (d : Taken) (s : Stands o tak
       let found = slot_entry o.journal.entries taken o.presented f.t f.ts o.unix.pending (subst (λ ls. StandsFor o.journal.entries taken o.presented ls o.unix.pending) f.all s) in
       (found.0, ap (entry_at o.journal.entries) f.part.first ∙ found.1, ap kind_of_event f.part.event ∙ found.2)
 
+  -- it was presented, and is of the event
+  pub drained_of_entry : IsOfEntry o d
+  drained_of_entry =
+      let f = first_of_log in
+      let there = subst (λ ls. StandsFor o.journal.entries taken o.presented ls o.unix.pending) f.all s in
+      let one = slot_each o.journal.entries taken o.presented f.t f.ts o.unix.pending there 0 f.t.first (let some = f.part.some in let fits = f.part.fits in omega (arith, some, fits))
+      (slot_next o.journal.entries taken o.presented f.t f.ts o.unix.pending there) in
+      let found = drained_entry in
+      let at = place_in o.journal.entries d.first found.0 found.1 in
+      let from = at.1 in
+      let low = one.1 in
+      let same = f.part.first in
+      record {
+        low = omega (arith, from);
+        presented = omega (arith, low, same);
+        event =
+            ap (is_of d.event) found.1
+            ∙ sym (kind_event d.event found.0.what)
+            ∙ ap (is_kind (kind_of_event d.event)) (sym found.2)
+            ∙ is_kind_refl (kind_of_event d.event);
+      }
+
   -- so it is after the move by which they arrive
   pub moved_stands : (rules : Rules) (now : Moment) (at : Place) → o.journal ≡ rules.journal → taken ≡ now.taken
       → Stands (drain o) (moved rules now (Arrive d.first d.count at)).taken
@@ -195,7 +217,7 @@ seam : (xs ys : List ℕ) → drop (length xs) (xs ++ ys) ≡ ys
 seam [] ys = refl
 seam (x ∷ xs) ys = seam xs ys
 
-entry_index : (entries : List Entry) (j : ℕ) → entry_at entries (1 + j) ≡ slice_get entries j
+pub entry_index : (entries : List Entry) (j : ℕ) → entry_at entries (1 + j) ≡ slice_get entries j
 entry_index entries j =
     cond-false (1 + j == 0) None (slice_get entries (1 + j - 1)) (ne_eqb (1 + j) 0 (λ e. omega (arith, e)))
     ∙ ap (slice_get entries) (let e : 1 + j - 1 ≡ j = omega arith in e)

@@ -18,3 +18,4 @@ pub mod LawLemmas
 pub mod NumberLemmas
 pub mod OutsideLemmas
 pub mod PresentedLemmas
+pub mod SoundLemmas

@@ -1,10 +1,10 @@
 -- What pends and is logged stands for the entries that were presented and are not taken: at the start, where an entry is
 -- presented, where all is gathered, and where some are drained.
-use Rattle.std.proofs.Common.{◌≡◌, ◌∙◌, refl, sym, ap, subst, arith, inl, inr, ℕ, zero, suc, ◌+◌, ◌-◌, ◌<◌, ◌≤◌, Bool, true, false, cond, List, [], ◌∷◌, ◌++◌, length, take, drop, filter, find, Option, Some, None}
-use Rattle.std.specs.Prelude.{◌==◌, ◌||◌, slice_get, nat_lt, if◌then◌else◌}
-use Rattle.std.specs.List.{AllByRecursion, range_with_len}
+use Rattle.std.proofs.Common.{◌≡◌, ◌∙◌, refl, sym, ap, subst, arith, inl, inr, ℕ, zero, suc, ◌+◌, ◌-◌, ◌<◌, ◌≤◌, Bool, true, false, cond, List, [], ◌∷◌, length, take, drop, find, Option, Some, None}
+use Rattle.std.specs.Prelude.{slice_get, nat_lt}
+use Rattle.std.specs.List.{range_with_len}
 use Rattle.std.specs.Option.{option_or}
-use Rattle.std.proofs.lemmas.Bool.{cases_Bool, cond-true, cond-false, or_parts, eq-eqb, ltb-false, lt-ltb, ltb-true}
+use Rattle.std.proofs.lemmas.Bool.{cases_Bool, cond-true, cond-false, or_parts, eq-eqb, ltb-false, ltb-true}
 use Rattle.std.proofs.lemmas.Option.{same_Some}
 use Rattle.std.proofs.lemmas.List.{length-append}
 use Rattle.journal_text.specs.declared.entry.Entry.{Entry}
@@ -13,13 +13,13 @@ use Rattle.journal_text.specs.declared.entry.What.TheVariants as what
 use Rattle.unix_process.specs.declared.UnixEvent.{UnixEvent}
 use Rattle.unix_process.specs.declared.UnixEvent.TheVariants.{Sig, Tick, Input}
 use Rattle.unix_process.specs.declared.Taken.{Taken}
-use Rattle.unix_process.specs.Merging.{same_event, IsEvent, one_entry, merged, count_of, first_of, is_among, IsTally, IsCounted}
+use Rattle.unix_process.specs.Merging.{same_event, IsEvent, one_entry, merged, count_of, first_of, is_among, IsTally}
 use Rattle.unix_process.proofs.MergingLemmas.{same_comm, same_is, counts_add_up, firsts_stay, stays_tally, stays_counted}
 use Rattle.monitor_log.specs.Log.{left_after_one}
 use Rattle.posix_model.specs.Journals.{Kind, OfSignal, OfTicks, OfInput, kind_of, is_kind, with_taken, nothing_taken, numbers_from}
 use Rattle.posix_model.specs.Runs.{IsAlone}
 use Rattle.kernel_state.specs.Outside.{OutsideState, event_of, is_of, gathered, next_of, number_at, drained_of, left_drained}
-use Rattle.kernel_state.specs.Presented.{kind_of_event, StandsFor, Stands}
+use Rattle.kernel_state.specs.Presented.{kind_of_event, event_of_kind, StandsFor}
 use Rattle.kernel_state.proofs.NumberLemmas.{one_longer, new_number, get_some, find_at, of_kind, are_next, numbers_split, early}
 
 -- ---- events and kinds
@@ -58,16 +58,28 @@ kinds_agree Input (Sig r) = refl
 kinds_agree Input Tick = refl
 kinds_agree Input Input = refl
 
--- the event of a kind
-abbrev pub event_of_kind : Kind → UnixEvent
-event_of_kind (OfSignal s) = Sig s
-event_of_kind OfTicks = Tick
-event_of_kind OfInput = Input
-
 pub back_to_kind : (k : Kind) → kind_of_event (event_of_kind k) ≡ k
 back_to_kind (OfSignal s) = refl
 back_to_kind OfTicks = refl
 back_to_kind OfInput = refl
+
+-- what an entry of a kind is
+pub signal_what : (sig : ℕ) (w : What) → kind_of_event (Sig sig) ≡ kind_of w → w ≡ what.Sig sig
+signal_what sig (what.Sig r) h = ap what.Sig (sym (ap number h))
+  where
+    number : Kind → ℕ
+    number (OfSignal s) = s
+    number OfTicks = 0
+    number OfInput = 0
+signal_what sig what.Tick h = absurd (cc)
+signal_what sig (what.Data start len) h = absurd (cc)
+signal_what sig what.Eof h = absurd (cc)
+
+pub tick_what : (w : What) → kind_of_event Tick ≡ kind_of w → w ≡ what.Tick
+tick_what (what.Sig r) h = absurd (cc)
+tick_what what.Tick h = refl
+tick_what (what.Data start len) h = absurd (cc)
+tick_what what.Eof h = absurd (cc)
 
 -- how many of an event's kind are taken, where more of another's are
 taken_other : (taken : Kind → ℕ) (e d : UnixEvent) (count : ℕ) → same_event d e ≡ false → with_taken taken (kind_of_event d) count (kind_of_event e) ≡ taken (kind_of_event e)

@@ -1,19 +1,32 @@
 -- What the law of the presented entries gives: the premises of an arrival, move by move.
-use Rattle.std.specs.Prelude.{ℕ, ◌+◌, ◌-◌, ◌≡◌, ◌≤◌, ◌&&◌, true, List, [], length, Option, Some, None}
+use Rattle.std.specs.Prelude.{ℕ, ◌+◌, ◌-◌, ◌≡◌, ◌≤◌, ◌&&◌, true, List, [], length, take, Some, None}
 use Rattle.std.specs.List.{range_with_len}
 use Rattle.thread_base.specs.Orders.{is_in}
 use Rattle.thread_base.specs.declared.Place.{Place}
 use Rattle.journal_text.specs.declared.entry.Entry.{Entry}
+use Rattle.unix_process.specs.declared.UnixEvent.{UnixEvent}
 use Rattle.unix_process.specs.declared.Taken.{Taken}
-use Rattle.posix_model.specs.Journals.{Kind, nothing_taken, entry_at, untaken, reached}
+use Rattle.unix_process.specs.Merging.{count_of}
+use Rattle.posix_model.specs.Journals.{Kind, nothing_taken, left_of_kind, entry_at, untaken, reached}
 use Rattle.posix_model.specs.Runs.{Rules, Moment, is_waiting, moved, MayArrive}
 use Rattle.posix_model.specs.declared.Move.TheVariants.{Arrive}
 use Rattle.kernel_state.specs.Outside.{OutsideState, drained, drain, is_nothing}
-use Rattle.kernel_state.specs.Presented.{StandsFor, Stands, AreDue}
+use Rattle.kernel_state.specs.Presented.{kind_of_event, StandsFor, Stands, taken_of, AreDue}
 
 -- at the start of a run nothing stands for no entry
 abbrev pub StartStands : Type 0
 StartStands = (entries : List Entry) → StandsFor entries nothing_taken 0 [] []
+
+-- of each event as many entries are logged and pend as were presented of its kind and are not taken
+abbrev pub CountsLeft : Type 0
+CountsLeft =
+    (o : OutsideState) (taken : Kind → ℕ) (e : UnixEvent) →
+    Stands o taken →
+    count_of e o.log.slots + count_of e o.unix.pending ≡ length (left_of_kind (take o.presented o.journal.entries) taken (kind_of_event e))
+
+-- how many entries were taken follows from what is kept
+abbrev pub TakenFollows : Type 0
+TakenFollows = (o : OutsideState) (taken : Kind → ℕ) → Stands o taken → taken ≡ taken_of o
 
 -- all that is drained may arrive together, where each entry that was presented is due; after that move the rest stands
 abbrev pub DrainedMayArrive : Type 0

@@ -1,17 +1,17 @@
 -- What came from outside and is not taken yet, and what is done with it (this project's own).
-use Rattle.std.specs.Prelude.{ℕ, ◌+◌, ◌-◌, ◌≡◌, ◌≤◌, ◌&&◌, ◌||◌, Bool, true, false, not, if◌then◌else◌, List, [], ◌∷◌, length, replicate, slice_get, slice_set, find, Option, Some, None}
+use Rattle.std.specs.Prelude.{ℕ, ◌+◌, ◌-◌, ◌||◌, Bool, true, false, not, if◌then◌else◌, List, [], ◌∷◌, length, replicate, slice_get, slice_set, find, Option, Some, None}
 use Rattle.std.specs.List.{range_with_len}
 use Rattle.thread_base.specs.declared.Place.{Place}
-use Rattle.journal_text.specs.Contents.{Contents, empty}
+use Rattle.journal_text.specs.Contents.{Contents}
 use Rattle.journal_text.specs.declared.entry.Entry.{Entry}
 use Rattle.journal_text.specs.declared.entry.What.{What}
 use Rattle.journal_text.specs.declared.entry.What.TheVariants as what
 use Rattle.unix_process.specs.declared.UnixEvent.{UnixEvent}
 use Rattle.unix_process.specs.declared.UnixEvent.TheVariants.{Sig, Tick, Input}
 use Rattle.unix_process.specs.declared.Taken.{Taken}
-use Rattle.unix_process.specs.Merging.{same_event, one_entry, merged, count_of, IsCounted}
+use Rattle.unix_process.specs.Merging.{same_event, one_entry, merged}
 use Rattle.unix_process.specs.Unix.{UnixState}
-use Rattle.monitor_log.specs.Log.{LogState, one_of_first, left_after_one}
+use Rattle.monitor_log.specs.Log.{LogState, left_after_one}
 use Rattle.posix_model.specs.Journals.{entry_at}
 
 -- the Unix process, the monitor's log, the journal with the places where its entries were presented, and how many were
@@ -116,11 +116,3 @@ drain o = record o { log = record o.log { slots = left_drained o o.log.slots } }
 abbrev pub is_nothing : List Taken → Bool
 is_nothing [] = true
 is_nothing (t ∷ ts) = false
-
--- no more entries pend and are logged than were presented; each has its place
-pub record IsSound (o : OutsideState) : Type 0 where
-  pub counts : (e : UnixEvent) → count_of e o.log.slots + count_of e o.unix.pending ≤ o.presented
-  pub counted : IsCounted o.log.slots
-  pub within : o.presented ≤ length o.journal.entries
-  pub few : length o.journal.entries ≤ 1000000
-  pub placed : length o.places ≡ length o.journal.entries

@@ -1,13 +1,13 @@
 //! What comes from outside, from the journal to the monitor's log.
 
-ghost use Rattle.std.specs.Prelude.{◌≡◌, ◌+◌, ◌-◌, ◌<◌, ◌≤◌, ◌&&◌, ◌^◌, [], true, false, OnOk, OnErr, IfSome, find, length, slice_get, slice_set, Some, None};
+ghost use Rattle.std.specs.Prelude.{◌≡◌, ◌+◌, ◌-◌, ◌<◌, ◌≤◌, ◌&&◌, ◌^◌, [], true, false, OnOk, OnErr, IfSome, IsNone, find, length, slice_get, slice_set, Some, None};
 ghost use Rattle.std.specs.List.{range_with_len};
 ghost use Rattle.journal_text.specs.Contents.{empty};
-ghost use Rattle.unix_process.specs.Merging.{count_of, merged, one_entry, same_event, IsEvent, IsCounted};
+ghost use Rattle.unix_process.specs.Merging.{count_of, merged, one_entry, IsEvent};
 ghost use Rattle.posix_model.specs.Journals.{entry_at};
-ghost use Rattle.kernel_state.specs.Laws.{StartStands, DrainedMayArrive, ReachedAreDue, NothingLeft, NextIsDue};
-ghost use Rattle.kernel_state.specs.Presented.{KeepsStanding, TakesDrained};
-ghost use Rattle.kernel_state.specs.Outside.{attached, event_of, is_of, gathered, gather, present, next_of, drained, drain, is_nothing};
+ghost use Rattle.kernel_state.specs.Laws.{StartStands, CountsLeft, TakenFollows, DrainedMayArrive, ReachedAreDue, NothingLeft, NextIsDue};
+ghost use Rattle.kernel_state.specs.Presented.{KeepsStanding, TakesDrained, IsSound, IsOfEntry, IsLeftBehind};
+ghost use Rattle.kernel_state.specs.Outside.{attached, event_of, event_at, is_of, gathered, gather, present, next_of, drained, drain, is_nothing};
 
 use journal_text::{Entry, Journal, What};
 use monitor_log::Log;
@@ -34,8 +34,8 @@ pub struct Outside {
 }
 
 impl Model for Outside {
-    ghost use Rattle.kernel_state.specs.Presented.{KeepsStanding, TakesDrained};
-    ghost use Rattle.kernel_state.specs.Outside.{OutsideState, IsSound};
+    ghost use Rattle.kernel_state.specs.Outside.{OutsideState};
+    ghost use Rattle.kernel_state.specs.Presented.{IsSound};
     ghost use Rattle.kernel_state.specs.Recorded.{journal_of, places_of};
 
     ghost Value = { OutsideState };
@@ -86,6 +86,14 @@ impl Outside {
         let places = vec![in alloc; Place { n: 0, k: 0 }; count].map_err(|_| NoMemory)?;
         self.recording = Some(Recording { journal, places });
         Ok(())
+    }
+
+    /// The journal, if there is one.
+    pub fn journal(&self) -> Option<&Journal>
+        ensures some { IfSome result (λ journal. journal.now ≡ self.now.journal) }
+        ensures none { IsNone result → self.now.journal ≡ empty }
+    {
+        self.recording.as_ref().map(|recording| &recording.journal)
     }
 
     /// How many entries the journal has.
@@ -154,6 +162,7 @@ impl Outside {
     /// How many entries were presented.
     pub fn presented(&self) -> u32
         ensures number { result ≡ self.now.presented }
+        ensures sound { IsSound self.now }
         ensures within { self.now.presented ≤ length self.now.journal.entries }
     {
         self.presented
@@ -204,45 +213,47 @@ impl Outside {
     {
         self.note_place(number, at);
         let event = event_of(self.entry(number).what);
-        let item = Taken {
-            event,
-            first: number,
-            count: 1,
-        };
         if !self.log.is_set() || self.unix.is_blocked() {
-            self.accept(item);
+            self.accept(event, number);
         } else {
             self.gather();
-            self.log(item);
+            self.log(event, number);
         }
     }
 
-    /// Lets an entry pend in Unix that is presented now.
-    fn accept(&mut self, item: Taken)
-        requires one { item.count ≡ 1 }
-        requires next { item.first ≡ self.old.presented + 1 }
-        requires there { item.first ≤ length self.old.journal.entries }
+    /// Lets the next entry pend in Unix.
+    fn accept(&mut self, event: UnixEvent, number: u32)
+        requires next { number ≡ self.old.presented + 1 }
+        requires there { number ≤ length self.old.journal.entries }
+        requires event { event ≡ event_at (entry_at self.old.journal.entries number) }
+        requires scope { IsEvent event }
         ensures { self.new ≡ record self.old {
-          unix = record self.old.unix { pending = merged item self.old.unix.pending };
-          presented = item.first;
+          unix = record self.old.unix { pending = merged (one_entry event number) self.old.unix.pending };
+          presented = number;
         } }
     {
-        self.presented = item.first;
-        self.unix.accept(item.event, item.first);
+        self.presented = number;
+        self.unix.accept(event, number);
     }
 
-    /// Logs an entry that is presented now.
-    fn log(&mut self, item: Taken)
-        requires one { item.count ≡ 1 }
-        requires next { item.first ≡ self.old.presented + 1 }
-        requires there { item.first ≤ length self.old.journal.entries }
+    /// Logs the next entry, where nothing pends.
+    fn log(&mut self, event: UnixEvent, number: u32)
+        requires next { number ≡ self.old.presented + 1 }
+        requires there { number ≤ length self.old.journal.entries }
+        requires event { event ≡ event_at (entry_at self.old.journal.entries number) }
+        requires scope { IsEvent event }
+        requires gathered { self.old.unix.pending ≡ [] }
         ensures { self.new ≡ record self.old {
-          log = record self.old.log { slots = merged item self.old.log.slots };
-          presented = item.first;
+          log = record self.old.log { slots = merged (one_entry event number) self.old.log.slots };
+          presented = number;
         } }
     {
-        self.presented = item.first;
-        self.log.add(item);
+        self.presented = number;
+        self.log.add(Taken {
+            event,
+            first: number,
+            count: 1,
+        });
     }
 
     /// Brings all that pends into the log, first occurrence first.
@@ -250,8 +261,6 @@ impl Outside {
         ensures state { self.new ≡ gather self.old }
         ensures stands { KeepsStanding self.old self.new }
     {
-        // Each event that pends has one entry at least.
-        let _sound = self.unix.len();
         move_all(&mut self.unix, &mut self.log);
     }
 
@@ -267,6 +276,7 @@ impl Outside {
     pub fn drain(&mut self) -> Option<Taken>
         ensures first { result ≡ drained self.old.log.slots }
         ensures rest { self.new ≡ drain self.old }
+        ensures entry { IfSome result (IsOfEntry self.old) }
         ensures stands { TakesDrained self.old result self.new }
     {
         let slot = self.log.first()?;
@@ -305,9 +315,10 @@ impl Outside {
         event_of(self.entry_at(index).what) == event
     }
 
-    /// Whether nothing is logged and nothing pends.
+    /// Whether nothing is logged and nothing pends; then the entries that are left are those that were not presented.
     pub fn is_empty(&self) -> bool
-        ensures { result ≡ (is_nothing self.now.log.slots && is_nothing self.now.unix.pending) }
+        ensures nothing { result ≡ (is_nothing self.now.log.slots && is_nothing self.now.unix.pending) }
+        ensures left { result ≡ true → IsLeftBehind self.now }
     {
         self.log.first().is_none() && self.unix.len() == 0
     }
@@ -341,9 +352,11 @@ fn move_all(unix: &mut Unix, log: &mut Log)
 
 /// What pends and is logged stands for the entries that were presented and are not taken. So what is drained may arrive,
 /// and where nothing is left those that are left are the ones behind.
-#[tactic(auto, using(crate::proofs::LawLemmas::start_stands, crate::proofs::LawLemmas::drained_may_arrive, crate::proofs::LawLemmas::reached_are_due, crate::proofs::LawLemmas::left_is_next, crate::proofs::LawLemmas::next_is_due))]
+#[tactic(auto, using(crate::proofs::LawLemmas::start_stands, crate::proofs::LawLemmas::counts_left, crate::proofs::LawLemmas::taken_follows, crate::proofs::LawLemmas::drained_may_arrive, crate::proofs::LawLemmas::reached_are_due, crate::proofs::LawLemmas::left_is_next, crate::proofs::LawLemmas::next_is_due))]
 pub fn arrivals()
     ensures start { StartStands }
+    ensures counts { CountsLeft }
+    ensures taken { TakenFollows }
     ensures may_arrive { DrainedMayArrive }
     ensures reached { ReachedAreDue }
     ensures left { NothingLeft }

@@ -1,5 +1,5 @@
 use crate::outside::{Outside, arrivals};
-use journal_text::{What, read_journal};
+use journal_text::{Journal, What, read_journal};
 use std::alloc::Global;
 use thread_base::{Place, Sig};
 use unix_process::{Taken, UnixEvent};
@@ -43,6 +43,7 @@ fn present_next(outside: &mut Outside) {
 fn nothing_comes_without_a_journal(rt: HostRuntime) {
     let mut outside = Outside::new();
     assert!(rt; outside.is_empty());
+    assert!(rt; outside.journal().is_none());
     assert_eq!(rt; outside.len(), 0);
     assert_eq!(rt; outside.bytes().len(), 0);
     assert_eq!(rt; outside.presented(), 0);
@@ -95,6 +96,7 @@ fn entries_are_logged_behind_those_that_pend(rt: HostRuntime) {
 fn entries_and_places_are_read(rt: HostRuntime) {
     let mut outside = attached(rt.alloc()).expect(&rt, "there is memory");
     assert_eq!(rt; outside.bytes(), b"hi".as_slice());
+    assert_eq!(rt; outside.journal().map(Journal::len), Some(6));
     assert!(rt; outside.len() == 6);
     assert_eq!(rt; outside.entry(5).place, at(4));
     assert_eq!(rt; outside.entry(3).what, What::Data { start: 0, len: 2 });

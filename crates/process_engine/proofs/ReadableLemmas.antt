@@ -62,9 +62,10 @@ retake_readable g m (Some mutex) t count reply h = by (is_free mutex.holder)
 acted_readable : (action : Action) (sig : ℕ) (g : Outcome) → Readable g → Readable (with_action g sig action)
 acted_readable action sig g h = by (ignores action sig)
   where
-    by : (b : Bool) → Readable (if b
-    then dropped (record g { state = record g.state { actions = put g.state.actions sig action; pending = forgotten sig g.state.pending } }) sig (left_of g.state sig)
-    else record g { state = record g.state { actions = put g.state.actions sig action } })
+    by : (b : Bool)
+        → Readable (if b
+        then dropped (record g { state = record g.state { actions = put g.state.actions sig action; pending = forgotten sig g.state.pending } }) sig (left_of g.state sig)
+        else record g { state = record g.state { actions = put g.state.actions sig action } })
     by true = h
     by false = h
 

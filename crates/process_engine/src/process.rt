@@ -136,7 +136,8 @@ impl Process {
             None => {}
         }
         match self.kernel.tables().next_delivery() {
-            Some((t, s, of_process)) => {
+            Some(next) => {
+                let (t, s, of_process) = next;
                 begin_delivery(&mut self.kernel, t, s, of_process);
                 self.stage = Stage::InCall;
                 return Advance::Begun(self.last);

@@ -1,7 +1,7 @@
 ghost use Rattle.std.specs.Prelude.{◌≡◌, None, IfSome, is_some};
 ghost use Rattle.posix_model.specs.Threads.{exists};
 ghost use Rattle.posix_model.specs.Trace.{left};
-ghost use Rattle.kernel_state.specs.View.{thread_in};
+ghost use Rattle.kernel_state.specs.Records.{thread_in};
 ghost use Rattle.process_engine.specs.Engine.{moment_of, position_of};
 ghost use Rattle.process_engine.specs.Whole.{RunsToEnd};
 
@@ -29,10 +29,10 @@ impl Process {
         }
     }
 
-    /// What is kept of a thread, where no move is in progress; None exactly where there is none.
+    /// What is kept of a thread but for its frames, where no move is in progress; None exactly where there is none.
     pub fn find(&self, t: Tid) -> Option<ThreadRecord>
         requires { (position_of self.now).telling ≡ None }
-        ensures thread { IfSome result (λ k. thread_in k ≡ (moment_of self.now).state.threads t) }
+        ensures thread { IfSome result (λ k. thread_in k ((moment_of self.now).state.threads t).frames ≡ (moment_of self.now).state.threads t) }
         ensures there { is_some result ≡ exists (moment_of self.now).state t }
     {
         self.tables().find(t)
@@ -46,7 +46,7 @@ impl Process {
         self.tables().memory()
     }
 
-    /// How many of each signal still pend, over all threads, where no move is in progress.
+    /// How many of each signal still pend, over the process and all threads, where no move is in progress.
     pub fn left(&self) -> [u64; 32]
         requires { (position_of self.now).telling ≡ None }
         ensures { result ≡ left (moment_of self.now).state }

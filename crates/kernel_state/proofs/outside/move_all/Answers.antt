@@ -1,5 +1,5 @@
-use Rattle.std.proofs.Common.{◌≡◌, ◌∙◌, ap, sym, arith, [], ◌+◌, drop, List}
-use Rattle.unix_process.specs.Merging.{count_of, merged}
+use Rattle.std.proofs.Common.{◌∙◌, ap, sym, arith, [], ◌+◌}
+use Rattle.unix_process.specs.Merging.{count_of}
 use Rattle.unix_process.specs.Unix.{UnixState}
 use Rattle.monitor_log.specs.Log.{LogState}
 use Rattle.kernel_state.specs.Outside.{gathered}

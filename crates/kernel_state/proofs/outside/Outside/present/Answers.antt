@@ -1,9 +1,7 @@
-use Rattle.std.proofs.Common.{◌≡◌, ◌∙◌, ap, sym, subst, ◌+◌, Some}
-use Rattle.thread_base.specs.declared.Place.{Place}
-use Rattle.unix_process.specs.Merging.{IsEvent, one_entry, merged}
+use Rattle.std.proofs.Common.{◌∙◌, ap, sym, subst, ◌+◌}
 use Rattle.posix_model.specs.Journals.{entry_at}
-use Rattle.kernel_state.specs.Outside.{OutsideState, gather}
-use Rattle.kernel_state.specs.Presented.{StandsFor, Stands}
+use Rattle.kernel_state.specs.Outside.{OutsideState}
+use Rattle.kernel_state.specs.Presented.{Stands}
 use Rattle.kernel_state.proofs.ArrivalLemmas.{accept_stands, log_stands}
 use Rattle.kernel_state.proofs.outside.Outside.present.Goals as goal
 

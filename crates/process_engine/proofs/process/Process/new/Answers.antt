@@ -1,4 +1,4 @@
-use Rattle.std.proofs.Common.{◌∙◌, refl, subst, sym, arith, None}
+use Rattle.std.proofs.Common.{◌≡◌, ◌∙◌, refl, subst, sym, arith, None}
 use Rattle.posix_model.specs.Good.{IsGood}
 use Rattle.posix_model.specs.Journals.{nothing_taken}
 use Rattle.posix_model.specs.Laws.{IsBounded}

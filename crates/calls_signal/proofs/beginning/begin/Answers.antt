@@ -1,9 +1,9 @@
-use Rattle.std.proofs.Common.{◌∙◌, ap, sym, subst, ℕ}
+use Rattle.std.proofs.Common.{sym, subst}
 use Rattle.posix_model.specs.Calls.{Called, told_call, row_of, signal_calls}
 use Rattle.posix_model.proofs.TableLemmas.{signal_row}
 use Rattle.kernel_state.specs.View.{view}
 use Rattle.kernel_state.specs.Begun.{IsBegun, arguments_of}
-use Rattle.calls_signal.proofs.begin.Goals as goal
+use Rattle.calls_signal.proofs.beginning.begin.Goals as goal
 
 pub returns : goal.returns
 returns g c =
