@@ -1,17 +1,16 @@
 -- The small changes of a delivery: they can be made in their turn, and together they are what the machine makes.
-use Rattle.std.proofs.Common.{◌≡◌, ◌∙◌, ap, sym, refl, subst, arith, ℕ, ◌+◌, ◌<◌, ◌^◌, Bool, true, false, List, length, Option, Some, None}
+use Rattle.std.proofs.Common.{◌≡◌, ◌∙◌, ap, sym, refl, subst, arith, ℕ, ◌+◌, ◌<◌, ◌^◌, Bool, true, false, List, length, Option, Some}
 use Rattle.std.specs.Prelude.{if◌then◌else◌}
 use Rattle.thread_base.specs.Actions.{ignores}
 use Rattle.thread_base.specs.Deliveries.{takes, waits_for}
 use Rattle.thread_base.specs.declared.action.Action.TheVariants.{Default}
 use Rattle.thread_signals.specs.Counts.{place_of}
-use Rattle.posix_model.specs.State.{State, Target, Nothing, ConditionAt, ASignal, target, set_at, is_at_condition}
+use Rattle.posix_model.specs.State.{State, Target, ConditionAt, ASignal, target, set_at, is_at_condition}
 use Rattle.posix_model.specs.Changes.{Outcome, begun}
 use Rattle.posix_model.specs.Conditions.{wake}
 use Rattle.posix_model.specs.Threads.{exists}
 use Rattle.posix_model.specs.Good.{IsGood}
-use Rattle.posix_model.specs.Deliveries.{Gives, next_delivery, deliver, delivered, given, by_action, handled, wait_ended, entering, most_frames, awaited, is_free_for, set_pending, told}
-use Rattle.posix_model.specs.Reports.{nothing_told}
+use Rattle.posix_model.specs.Deliveries.{next_delivery, deliver, delivered, given, by_action, handled, wait_ended, entering, most_frames, awaited, is_free_for, set_pending, told}
 use Rattle.posix_model.specs.Weights.{pending_in_all}
 use Rattle.posix_model.specs.declared.Ending.TheVariants.{Killed}
 use Rattle.posix_model.specs.declared.Head.{Head}
@@ -20,16 +19,17 @@ use Rattle.posix_model.specs.declared.RetakeReply.TheVariants.{Answer as AnswerR
 use Rattle.posix_model.proofs.GoodMoves.{deliveries_keep_good}
 use Rattle.posix_model.proofs.StandingLemmas.{never, is_something, aiming}
 use Rattle.posix_model.proofs.WakeLemmas.{with_threads_of, wake_leaves}
-use Rattle.kernel_state.specs.declared.kernel.MainLine.TheVariants.{OfThread}
 use Rattle.kernel_state.specs.View.{view}
-use Rattle.kernel_state.specs.Begun.{HasRoom, HasNoted, HasNotedSome, NotesMore, CanStart, IsBegun}
+use Rattle.kernel_state.specs.Begun.{HasRoom, HasNoted, NotesMore, CanStart, IsBegun}
 use Rattle.kernel_state.specs.Changing.{change_by}
-use Rattle.kernel_state.specs.Kernels.{KernelState, IsIdle}
+use Rattle.kernel_state.specs.Executing.{delivery_by}
+use Rattle.kernel_state.specs.Kernels.{KernelState, IsIdle, IsSoundKernel}
 use Rattle.kernel_state.specs.declared.change.Change.TheVariants.{Thread as OfThread, Signal as OfSignal, Over}
 use Rattle.kernel_state.specs.declared.change.SignalChange.TheVariants.{Pend, Take}
 use Rattle.kernel_state.specs.declared.change.ThreadChange.TheVariants.{Answer, Handle}
-use Rattle.kernel_state.specs.declared.kernel.MainLine.{MainLine}
+use Rattle.kernel_state.specs.declared.kernel.MainLine.TheVariants.{OfThread as ByThread}
 use Rattle.kernel_state.specs.declared.tables.Tables.{Tables}
+use Rattle.kernel_state.proofs.KernelLemmas.{rests}
 use Rattle.kernel_state.proofs.NoteLemmas.{noted_none, tables_stay, can_start, begun_by}
 use Rattle.dispatcher.specs.Delivering.{HasTaken, ComesTo, Delivers}
 use Rattle.dispatcher.proofs.TakeLemmas.{given_takes, given_heeded, given_taken}
@@ -98,7 +98,7 @@ module _ {R : Type 0} (order : R → List ℕ) (first : KernelState R) (s : Stat
     pub accepts : IsGood s → waits_for (awaited s t) sig ≡ true → NotesMore order k q (OfThread t (Answer 0 sig)) → ComesTo order first q t (Accept to sig count) (given s t sig count)
     accepts good waits more =
         let signal = awaits_signal (target (s.threads t).standing) sig waits in
-        let live = aiming (s.threads t).standing (ap (λ a. is_something a) signal.1) in
+        let live = aiming (s.threads t).standing (ap is_something signal.1) in
         let answered : Outcome = change_by (OfThread t (Answer 0 sig)) (begun s) in
         record {
           so_far = answered;
@@ -113,16 +113,25 @@ acted s t sig count waits =
     sym (ap (λ b. if b then told t (Accept t sig count) (change_by (OfThread t (Answer 0 sig)) (begun s)) else by_action s t sig count (s.actions sig)) waits)
 
 -- the delivery that is next: its signal was taken
-module _ {R : Type 0} (order : R → List ℕ) (k : KernelState R) (t sig origin : ℕ) (idle : IsIdle k) (untold : k.tables.report ≡ nothing_told)
-    (good : IsGood (view order k.tables)) (room : HasRoom (view order k.tables)) (next : next_delivery (view order k.tables) ≡ Some (Gives t sig origin))
-    (place : Option ℕ) (there : place_of place ≡ origin) (q : KernelState R) (more : NotesMore order k q (OfSignal sig (Take place))) where
+module _ {R : Type 0} (order : R → List ℕ) (prios : R → ℕ → ℕ) (k : KernelState R) (t sig : ℕ) (of_process : Bool) (sound : IsSoundKernel order prios k) (idle : IsIdle k)
+    (room : HasRoom (view order k.tables)) (next : next_delivery (view order k.tables) ≡ delivery_by (Some (t, sig, of_process)))
+    (place : Option ℕ) (there : place_of place ≡ (if of_process then 0 else t)) (q : KernelState R) (more : NotesMore order k q (OfSignal sig (Take place))) where
+  abbrev before : State
+  before = view order k.tables
+
+  abbrev origin : ℕ
+  origin = if of_process then 0 else t
+
   abbrev taken : State
-  taken = set_pending (view order k.tables) origin sig 0
+  taken = set_pending before origin sig 0
+
+  good : IsGood before
+  good = (rests order prios k sound idle.main).0
 
   taken_noted : HasNoted order k q (begun taken)
   taken_noted =
-      subst (λ n. HasNoted order k q (begun (set_pending (view order k.tables) n sig 0))) there
-      (more k (begun (view order k.tables)) (noted_none order k idle untold) tt).so_far
+      subst (λ n. HasNoted order k q (begun (set_pending before n sig 0))) there
+      (more k (begun before) (noted_none order k idle (rests order prios k sound idle.main).1) tt).so_far
 
   tables_taken : k.tables ≡ q.tables
   tables_taken = sym (tables_stay order k q (begun taken) taken_noted)
@@ -130,29 +139,28 @@ module _ {R : Type 0} (order : R → List ℕ) (k : KernelState R) (t sig origin
   pub takes_still : takes (awaited (view order q.tables)) (is_free_for (view order q.tables)) t sig ≡ true
   takes_still =
       subst (λ (x : Tables R). takes (awaited (view order x)) (is_free_for (view order x)) t sig ≡ true) tables_taken
-      (given_takes (view order k.tables) t sig origin next)
+      (given_takes before t sig origin next)
 
   pub heeded_still : ignores ((view order q.tables).actions sig) sig ≡ false
   heeded_still =
       subst (λ (x : Tables R). ignores ((view order x).actions sig) sig ≡ false) tables_taken
-      (given_heeded (view order k.tables) t sig origin next good)
+      (given_heeded before t sig origin next good)
 
-  module _ (count : ℕ) (often : count ≡ (view order k.tables).pending origin sig) (head : Head) (r : KernelState R)
-      (delivers : Delivers order q r t head count (λ s. given s t sig count)) where
-    made : ComesTo order k r t head (deliver (view order k.tables))
+  module _ (from : Option ℕ) (same : place_of from ≡ origin) (tables : Tables R) (stay : tables ≡ k.tables) (count : ℕ) (often : count ≡ (view order tables).pending (place_of from) sig)
+      (head : Head) (r : KernelState R) (delivers : Delivers order q r t head count (λ s. given s t sig count)) where
+    whole : count ≡ before.pending origin sig
+    whole = often ∙ (λ i. (view order (stay i)).pending (same i) sig)
+
+    made : ComesTo order k r t head (deliver before)
     made =
-        let s : State = view order k.tables in
-        let both = given_taken s t sig origin next good room in
+        let both = given_taken before t sig origin next good room in
         let fits = both.1 in
-        let has : HasTaken (view order q.tables) taken = subst (λ (x : Tables R). HasTaken (view order x) taken) tables_taken both.0 in
-        subst (ComesTo order k r t head) (ap (given taken t sig) often ∙ sym (ap (delivered s) next))
-        (delivers k taken taken_noted has (omega (arith, fits, often)))
-
-    good_after : IsGood made.so_far.state
-    good_after = subst (λ (x : Outcome). IsGood x.state) (sym made.told) (deliveries_keep_good (view order k.tables) good)
+        let all = whole in
+        subst (ComesTo order k r t head) (ap (given taken t sig) whole ∙ sym (ap (delivered before) next))
+        (delivers k taken taken_noted (subst (λ (x : Tables R). HasTaken (view order x) taken) tables_taken both.0) (omega (arith, fits, all)))
 
     pub can_begin : CanStart order r
-    can_begin = can_start order k r made.so_far made.noted good_after
+    can_begin = can_start order k r made.so_far made.noted (subst (λ (x : Outcome). IsGood x.state) (sym made.told) (deliveries_keep_good before good))
 
-    pub is_begun : (after : KernelState R) (main : MainLine) → main ≡ OfThread t head → after ≡ record r { main = Some main } → IsBegun order k after (deliver (view order k.tables))
-    is_begun after main is begun = subst (IsBegun order k after) made.told (begun_by order k r made.so_far made.noted after (OfThread t head) (begun ∙ (λ i. record r { main = Some (is i) })))
+    pub is_begun : (after : KernelState R) → after ≡ record r { main = Some (ByThread t head) } → IsBegun order k after (deliver before)
+    is_begun after begun = subst (IsBegun order k after) made.told (begun_by order k r made.so_far made.noted after (ByThread t head) begun)

@@ -1,6 +1,6 @@
 -- Who gets a signal that is delivered next, and what is left when it was taken.
-use Rattle.std.proofs.Common.{◌⊎◌, ◌≡◌, ◌∙◌, ap, sym, refl, subst, arith, inl, inr, ℕ, ◌+◌, ◌<◌, ◌≤◌, ◌^◌, Bool, true, false, ◌&&◌, ◌||◌, not, List, [], ◌∷◌, filter, find, length, Option, Some, None, IfSome}
-use Rattle.std.specs.Prelude.{nat_lt, if◌then◌else◌}
+use Rattle.std.proofs.Common.{◌⊎◌, ◌≡◌, ◌∙◌, sym, refl, subst, arith, inl, inr, ℕ, ◌+◌, ◌<◌, ◌≤◌, ◌^◌, Bool, true, false, ◌&&◌, not, List, [], ◌∷◌, filter, find, length, Option, Some, None, IfSome}
+use Rattle.std.specs.Prelude.{nat_lt}
 use Rattle.std.specs.Option.{option_or, option_map}
 use Rattle.std.proofs.lemmas.Bool.{cases_Bool, ltb-true, and_parts, false_from_ne_true, or_left, or_right}
 use Rattle.thread_base.specs.Actions.{ignores}
@@ -8,7 +8,7 @@ use Rattle.thread_base.specs.Deliveries.{signals, takes, waits_for, waiters, rec
 use Rattle.thread_base.specs.Orders.{is_in}
 use Rattle.thread_base.specs.Priority.{tids, first_greatest}
 use Rattle.thread_base.proofs.PriorityLemmas.{first_in}
-use Rattle.thread_base.proofs.SearchLemmas.{find_passes, tids_in}
+use Rattle.thread_base.proofs.SearchLemmas.{find_passes}
 use Rattle.posix_model.specs.State.{State, Thread, Standing, Absent, is_absent, is_live, wait_of, takes_back}
 use Rattle.posix_model.specs.Good.{IsGood}
 use Rattle.posix_model.specs.Scheduling.{eff}

@@ -1,38 +1,31 @@
 -- How a wait ends whose thread is to enter a handler: the small changes can be made, and are what the machine makes.
-use Rattle.std.proofs.Common.{◌≡◌, ◌∙◌, ap, sym, refl, subst, ℕ, ◌-◌, ◌<◌, List, Bool, true, false, not, Option, Some, None, length}
+use Rattle.std.proofs.Common.{◌≡◌, ◌∙◌, ap, sym, refl, subst, ℕ, ◌-◌, List, true, false, not, Some, None}
 use Rattle.std.proofs.lemmas.Bool.{eq-eqb}
 use Rattle.thread_base.specs.Orders.{is_in}
 use Rattle.thread_base.proofs.MapLemmas.{put_same}
-use Rattle.posix_model.specs.State.{State, Thread, Frame, Standing, Absent, Ready, Waits, Ended, Target, Nothing, EndOf, MutexAt, ConditionAt, ASignal, ATime, Input, target, wait_of, is_absent, is_ready, is_live, wants, waits_on, mutex_with}
+use Rattle.posix_model.specs.State.{State, Thread, Frame, Standing, Absent, Ready, Waits, Ended, Target, Nothing, EndOf, MutexAt, ASignal, ATime, Input, target, wait_of, is_absent, is_ready, is_live, wants, waits_on, mutex_with}
 use Rattle.posix_model.specs.Changes.{Outcome, begun, append, with_reply}
 use Rattle.posix_model.specs.Threads.{exists}
 use Rattle.posix_model.specs.Good.{IsGood}
-use Rattle.posix_model.specs.Deliveries.{most_frames, unqueued, made_ready, wait_ended, interrupted}
+use Rattle.posix_model.specs.Deliveries.{unqueued, made_ready, wait_ended, interrupted}
 use Rattle.posix_model.specs.declared.Wait.{Wait}
 use Rattle.posix_model.specs.declared.Wait.TheVariants.{Join, Mutex as OfMutexWait, Signal as OfSignal, Sleep, Read}
-use Rattle.posix_model.proofs.StandingLemmas.{never}
 use Rattle.kernel_state.specs.Begun.{HasNoted, NotesMore}
 use Rattle.kernel_state.specs.Waking.{WaitsOn}
-use Rattle.kernel_state.specs.Changing.{Can, CanThread, change_by}
+use Rattle.kernel_state.specs.Changing.{change_by}
 use Rattle.kernel_state.specs.Kernels.{KernelState}
 use Rattle.kernel_state.specs.declared.change.Change.TheVariants.{Thread as OfThread, Mutex as OfMutex}
 use Rattle.kernel_state.specs.declared.change.MutexChange.TheVariants.{DropWaiter}
 use Rattle.kernel_state.specs.declared.change.ThreadChange.TheVariants.{Answer, Resume}
-use Rattle.kernel_state.proofs.NoteLemmas.{noted_one, noted_two}
+use Rattle.kernel_state.proofs.NoteLemmas.{noted_two}
 use Rattle.dispatcher.specs.Delivering.{HasTaken}
 
--- a thread that has a wait waits so, and one that has none waits for nothing
+-- a thread that has a wait waits so
 pub stands : (st : Standing) (wait : Wait) → wait_of st ≡ Some wait → st ≡ Waits wait
 stands Absent wait e = absurd (let f : None ≡ Some wait = e in cc)
 stands Ready wait e = absurd (let f : None ≡ Some wait = e in cc)
 stands (Waits w) wait e = let f : Some w ≡ Some wait = e in let same : w ≡ wait = cc in ap Waits same
 stands (Ended value) wait e = absurd (let f : None ≡ Some wait = e in cc)
-
-pub stands_idle : (st : Standing) → wait_of st ≡ None → target st ≡ Nothing
-stands_idle Absent e = refl
-stands_idle Ready e = refl
-stands_idle (Waits w) e = absurd (let f : Some w ≡ None = e in cc)
-stands_idle (Ended value) e = refl
 
 -- a thread is as it was before the signal was taken
 pub same_thread : (s r : State) (t : ℕ) → HasTaken s r → r.threads t ≡ s.threads t
@@ -47,7 +40,10 @@ waits_on_still s r t c m taken on = record {
   beside = ap (λ (x : Thread). mutex_with x.standing) (same_thread s r t taken) ∙ on.beside;
 }
 
--- and so is what a signal does
+-- and so are the time and what a signal does
+pub same_time : (s r : State) → HasTaken s r → r.now ≡ s.now
+same_time s r taken = ap (λ (x : State). x.now) taken.others
+
 pub same_action : (s r : State) (sig : ℕ) → HasTaken s r → r.actions sig ≡ s.actions sig
 same_action s r sig taken = ap (λ (x : State). x.actions sig) taken.others
 
@@ -62,9 +58,6 @@ module _ {R : Type 0} (order : R → List ℕ) (first k : KernelState R) (s : St
   -- a wait that is made again
   made_again : (a : Target) → target (s.threads t).standing ≡ a → begun (append (unqueued s t a) t (s.threads t)) ≡ begun (made_ready s t)
   made_again a is = ap (λ b. begun (append (unqueued s t b) t (s.threads t))) (sym is)
-
-  pub idle_ends : target (s.threads t).standing ≡ Nothing → EndedBy k
-  idle_ends is = subst (λ (x : Outcome). HasNoted order first k x) (sym (ap (wait_ended (begun s) t) is)) noted
 
   module _ (q : KernelState R) (more : NotesMore order k q (OfThread t Resume)) where
     pub join_ends : (u : ℕ) → (s.threads t).standing ≡ Waits (Join u) → EndedBy q
@@ -88,18 +81,17 @@ module _ {R : Type 0} (order : R → List ℕ) (first k : KernelState R) (s : St
       r (OfThread t Resume) more (can_go_on (OfMutexWait m) waits)).so_far
 
   -- a call that is interrupted
-  module _ (q : KernelState R) (value : ℕ) (more : NotesMore order k q (OfThread t (Answer interrupted value))) where
-    pub sleep_ends : (until : ℕ) → (s.threads t).standing ≡ Waits (Sleep until) → value ≡ until - s.now → EndedBy q
-    sleep_ends until waits rest =
-        subst (λ (x : Outcome). HasNoted order first q x)
-        (ap (λ n. change_by (OfThread t (Answer interrupted n)) (begun s)) rest ∙ sym (ap (λ st. wait_ended (begun s) t (target st)) waits))
-        (more first (begun s) noted (can_go_on (Sleep until) waits)).so_far
+  pub sleep_ends : (until now : ℕ) → (s.threads t).standing ≡ Waits (Sleep until) → now ≡ s.now → (q : KernelState R) → NotesMore order k q (OfThread t (Answer interrupted (until - now)))
+      → EndedBy q
+  sleep_ends until now waits same q more =
+      subst (λ (x : Outcome). HasNoted order first q x)
+      (ap (λ n. change_by (OfThread t (Answer interrupted (until - n))) (begun s)) same ∙ sym (ap (λ st. wait_ended (begun s) t (target st)) waits))
+      (more first (begun s) noted (can_go_on (Sleep until) waits)).so_far
 
-    pub read_ends : (buffer size : ℕ) → (s.threads t).standing ≡ Waits (Read buffer size) → value ≡ 0 → EndedBy q
-    read_ends buffer size waits none =
-        subst (λ (x : Outcome). HasNoted order first q x)
-        (ap (λ n. change_by (OfThread t (Answer interrupted n)) (begun s)) none ∙ sym (ap (λ st. wait_ended (begun s) t (target st)) waits))
-        (more first (begun s) noted (can_go_on (Read buffer size) waits)).so_far
+  pub read_ends : (buffer size : ℕ) → (s.threads t).standing ≡ Waits (Read buffer size) → (q : KernelState R) → NotesMore order k q (OfThread t (Answer interrupted 0)) → EndedBy q
+  read_ends buffer size waits q more =
+      subst (λ (x : Outcome). HasNoted order first q x) (sym (ap (λ st. wait_ended (begun s) t (target st)) waits))
+      (more first (begun s) noted (can_go_on (Read buffer size) waits)).so_far
 
 -- the thread of a wait that has ended is there, and has the frames that it had
 module _ (s : State) (t : ℕ) where

@@ -4,7 +4,6 @@ ghost use Rattle.thread_base.specs.Deliveries.{takes, waits_for};
 ghost use Rattle.posix_model.specs.State.{ConditionAt, target, wait_of, set_at, takes_back, is_at_condition};
 ghost use Rattle.posix_model.specs.Changes.{begun};
 ghost use Rattle.posix_model.specs.Deliveries.{next_delivery, deliver, given, by_action, handled, wait_ended, awaited, is_free_for, may_take};
-ghost use Rattle.posix_model.specs.Threads.{exists};
 ghost use Rattle.thread_signals.specs.Counts.{place_of};
 ghost use Rattle.kernel_state.specs.Records.{standing_in};
 ghost use Rattle.kernel_state.specs.View.{view};

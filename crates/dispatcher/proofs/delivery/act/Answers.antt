@@ -1,8 +1,5 @@
 use Rattle.std.proofs.Common.{◌≡◌, ◌∙◌, ap, sym, subst}
-use Rattle.thread_base.specs.declared.action.Action.{Action}
 use Rattle.thread_base.specs.declared.action.Action.TheVariants.{Default, Handler}
-use Rattle.posix_model.specs.State.{State}
-use Rattle.posix_model.specs.Changes.{Outcome}
 use Rattle.posix_model.specs.Deliveries.{by_action}
 use Rattle.posix_model.specs.declared.Head.TheVariants.{Deliver}
 use Rattle.kernel_state.specs.View.{view}

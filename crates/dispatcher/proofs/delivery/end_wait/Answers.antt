@@ -1,10 +1,9 @@
-use Rattle.std.proofs.Common.{rules, ◌≡◌, ◌∙◌, ap, sym, refl, subst, ◌-◌, Some}
-use Rattle.posix_model.specs.State.{State}
+use Rattle.std.proofs.Common.{rules, ◌≡◌, ◌∙◌, ap, sym, subst, Some}
 use Rattle.posix_model.specs.declared.Wait.TheVariants.{Join, Mutex as OfMutex, Signal as OfSignal, Sleep, Read}
 use Rattle.kernel_state.specs.View.{view}
 use Rattle.kernel_state.specs.Begun.{NotesMore}
 use Rattle.kernel_state.specs.declared.tables.Tables.{Tables}
-use Rattle.dispatcher.proofs.WaitLemmas.{waits_still, join_ends, signal_ends, mutex_ends, sleep_ends, read_ends}
+use Rattle.dispatcher.proofs.WaitLemmas.{waits_still, same_time, join_ends, signal_ends, mutex_ends, sleep_ends, read_ends}
 use Rattle.dispatcher.proofs.delivery.end_wait.Goals as goal
 
 pub returns-in-Some-Join-clause-noted : goal.returns-in-Some-Join-clause-noted
@@ -47,9 +46,9 @@ returns-in-Some-Sleep-clause-noted g c = λ first s noted taken.
     let has : c.args.wait ≡ Some (Sleep c.in-Some-Sleep.until) = search rules in
     let waits = waits_still (view order k.tables) s t (Sleep c.in-Some-Sleep.until) taken (sym c.requires.wait ∙ has) in
     let q = c.note_more-in-Some-Sleep.new.self in
-    let until = c.in-Some-Sleep.until in
-    let now = c.ticks.ensures ∙ ap (λ (x : Tables _). (view order x).now) c.tables.ensures.tables ∙ sym (ap (λ (x : State). x.now) taken.others) in
-    sleep_ends order first k s t noted taken.good q _ (subst (NotesMore order k q) c.interrupted.ensures c.note_more-in-Some-Sleep.ensures.noted) until waits (ap (λ n. until - n) now)
+    let now = c.ticks.ensures ∙ ap (λ (x : Tables _). (view order x).now) c.tables.ensures.tables ∙ sym (same_time (view order k.tables) s taken) in
+    sleep_ends order first k s t noted taken.good c.in-Some-Sleep.until c.ticks.result waits now q
+    (subst (NotesMore order k q) c.interrupted.ensures c.note_more-in-Some-Sleep.ensures.noted)
 
 pub returns-in-Some-Read-clause-noted : goal.returns-in-Some-Read-clause-noted
 returns-in-Some-Read-clause-noted g c = λ first s noted taken.
@@ -59,4 +58,5 @@ returns-in-Some-Read-clause-noted g c = λ first s noted taken.
     let has : c.args.wait ≡ Some (Read c.in-Some-Read.field-0-0 c.in-Some-Read.field-0-1) = search rules in
     let waits = waits_still (view order k.tables) s t (Read c.in-Some-Read.field-0-0 c.in-Some-Read.field-0-1) taken (sym c.requires.wait ∙ has) in
     let q = c.note_more-in-Some-Read.new.self in
-    read_ends order first k s t noted taken.good q _ (subst (NotesMore order k q) c.interrupted-in-Some-Read.ensures c.note_more-in-Some-Read.ensures.noted) _ _ waits refl
+    read_ends order first k s t noted taken.good c.in-Some-Read.field-0-0 c.in-Some-Read.field-0-1 waits q
+    (subst (NotesMore order k q) c.interrupted-in-Some-Read.ensures c.note_more-in-Some-Read.ensures.noted)

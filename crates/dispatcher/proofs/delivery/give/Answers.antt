@@ -1,6 +1,6 @@
 use Rattle.std.proofs.Common.{◌≡◌, ◌∙◌, ap, sym, subst, true, false}
 use Rattle.thread_base.specs.Deliveries.{waits_for}
-use Rattle.posix_model.specs.State.{State, Thread, target, set_at}
+use Rattle.posix_model.specs.State.{Thread, target, set_at}
 use Rattle.posix_model.specs.Deliveries.{awaited}
 use Rattle.kernel_state.specs.Begun.{NotesMore}
 use Rattle.kernel_state.specs.View.{view}

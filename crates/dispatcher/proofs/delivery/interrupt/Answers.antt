@@ -1,5 +1,3 @@
-use Rattle.std.proofs.Common.{ap, sym}
-use Rattle.posix_model.specs.State.{Thread, waits_on, mutex_with}
 use Rattle.posix_model.specs.Changes.{begun}
 use Rattle.kernel_state.specs.View.{view}
 use Rattle.dispatcher.proofs.WaitLemmas.{same_thread, waits_on_still}
