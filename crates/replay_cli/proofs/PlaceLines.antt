@@ -1,16 +1,30 @@
 -- The lines of places, as they are built and written.
 use Rattle.std.proofs.Common.{◌≡◌, ◌∙◌, ap, subst, ℕ, List, ◌++◌, append_assoc, Option, Some, None, IfSome}
-use Rattle.replay_io.specs.Writing.{WritesFront, AppendedFront}
+use Rattle.replay_io.specs.Writing.{WritesWhole, WritesFront, Appended, AppendedFront}
 use Rattle.posix_model.specs.Laws.{IsWholeRun}
 use Rattle.posix_model.specs.Runs.{Rules, Moment, after}
 use Rattle.posix_model.specs.declared.Ending.{Ending}
 use Rattle.process_engine.specs.Whole.{RunsToEnd}
 use Rattle.replay_cli.specs.Headline.{loaded, default_rules, IsStartOf}
-use Rattle.replay_cli.specs.Places.{places_text, TellsFrontOf}
+use Rattle.replay_cli.specs.Places.{places_text, TellsPlacesOf, TellsFrontOf}
 
 -- a piece after a line, and then more
 pub joined : (line a b mid new : List ℕ) → mid ≡ line ++ a → new ≡ mid ++ b → new ≡ line ++ (a ++ b)
 joined line a b mid new e f = f ∙ ap (λ (x : List ℕ). x ++ b) e ∙ append_assoc line a b
+
+-- the text of a whole run's end was written
+pub tells_places : (image : Option (List ℕ)) (rules : Rules) (start now : Moment) (ending : Ending) (a b : Option (List ℕ)) (f g : ℕ)
+    → IfSome image (λ image. IsStartOf (loaded image) start) → rules ≡ default_rules → RunsToEnd rules start ending now
+    → WritesWhole a b f g (places_text now ending) → IfSome image (λ image. TellsPlacesOf (loaded image) a b)
+tells_places None rules start now ending a b f g is same ran w = tt
+tells_places (Some image) rules start now ending a b f g is same ran w = record {
+  start = start;
+  of_image = is;
+  moves = ran.moves;
+  ending = ending;
+  whole = subst (λ s. IsWholeRun s start ran.moves ending) same ran.whole;
+  told = subst (λ s. Appended a b (places_text (after s start ran.moves) ending)) same (subst (λ m. Appended a b (places_text m ending)) ran.leads w.told);
+}
 
 -- a front of the text of a whole run's end was written
 pub tells_front : (image : Option (List ℕ)) (rules : Rules) (start now : Moment) (ending : Ending) (a b : Option (List ℕ)) (f g : ℕ)

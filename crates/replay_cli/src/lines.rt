@@ -1,6 +1,7 @@
-ghost use Rattle.std.specs.Prelude.{◌≡◌, ◌≤◌, ◌+◌, ◌++◌, length};
+ghost use Rattle.std.specs.Prelude.{◌≡◌, ◌≤◌, ◌+◌, ◌++◌, List, length};
 ghost use Rattle.replay_io.specs.Writing.{Writes};
-ghost use Rattle.kernel_state.specs.View.{thread_in, registers_of, phase_of};
+ghost use Rattle.posix_model.specs.State.{Frame};
+ghost use Rattle.kernel_state.specs.Records.{thread_in, standing_in, registers_of, phase_of};
 ghost use Rattle.replay_cli.specs.Places.{hex_word, wait_text, phase_text, standing_text, registers_text, place_line, fault_line};
 
 use crate::address::address_at;
@@ -78,7 +79,7 @@ fn add_phase(line: &mut Line, leaving: Option<u32>)
 /// Appends what a thread is doing.
 fn add_standing(line: &mut Line, known: &ThreadRecord)
     requires { length line.old + 93 ≤ 200 }
-    ensures text { line.new ≡ line.old ++ standing_text (thread_in known.now).standing (thread_in known.now).phase }
+    ensures text { line.new ≡ line.old ++ standing_text (standing_in known.now) (phase_of known.now.activity.leaving) }
     ensures room { length line.new ≤ length line.old + 93 }
 {
     if let Some(value) = known.row.ended {
@@ -114,7 +115,7 @@ pub(crate) fn put_place<O: Sink>(
     known: &ThreadRecord,
     out: &mut O,
 ) -> Result<(), SinkFailed>
-    ensures { Writes result (O.written out.old) (O.written out.new) (O.faults out.old) (O.faults out.new) (place_line t (thread_in known.now)) }
+    ensures { (frames : List Frame) → Writes result (O.written out.old) (O.written out.new) (O.faults out.old) (O.faults out.new) (place_line t (thread_in known.now frames)) }
 {
     let mut line = Line::new();
     line.text(b"thread");
