@@ -3,6 +3,8 @@
 
 mod arrival;
 mod delivery;
+mod next;
 
 pub use arrival::begin_arrival;
 pub use delivery::begin_delivery;
+pub use next::begin_next;
