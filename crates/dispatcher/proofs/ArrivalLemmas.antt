@@ -1,6 +1,6 @@
 -- What an arriving signal makes, by what it is, and what waits outside.
-use Rattle.std.proofs.Common.{◌≡◌, ◌∙◌, ap, sym, refl, arith, eqb, ℕ, zero, suc, ◌+◌, ◌-◌, ◌<◌, ◌≤◌, Bool, true, false, List, [], ◌∷◌, Option, Some, None, is_some, length}
-use Rattle.std.specs.Prelude.{◌==◌, ◌&&◌, if◌then◌else◌, slice_get, slice_index}
+use Rattle.std.proofs.Common.{◌≡◌, ◌∙◌, ap, sym, refl, arith, eqb, ℕ, zero, suc, ◌+◌, ◌-◌, ◌≤◌, Bool, true, false, List, [], ◌∷◌, Some, None, is_some, length}
+use Rattle.std.specs.Prelude.{◌&&◌, if◌then◌else◌, slice_get, slice_index}
 use Rattle.std.proofs.lemmas.List.{get_or-replicate}
 use Rattle.std.proofs.lemmas.Bool.{eq-eqb, ne_eqb}
 use Rattle.std.proofs.lemmas.Option.{slice_get_within}
@@ -8,8 +8,7 @@ use Rattle.thread_base.specs.Actions.{ignores}
 use Rattle.thread_base.specs.Numbers.{IsInScope}
 use Rattle.thread_base.specs.declared.Place.{Place}
 use Rattle.journal_text.specs.declared.entry.Entry.{Entry}
-use Rattle.journal_text.specs.declared.entry.What.{What}
-use Rattle.journal_text.specs.declared.entry.What.TheVariants.{Sig, Tick, Data, Eof}
+use Rattle.journal_text.specs.declared.entry.What.TheVariants.{Sig}
 use Rattle.unix_process.specs.declared.Taken.{Taken}
 use Rattle.unix_process.specs.Merging.{same_event, merged, signal_of}
 use Rattle.posix_model.specs.State.{State}
@@ -17,13 +16,13 @@ use Rattle.posix_model.specs.Reports.{nothing_told}
 use Rattle.posix_model.specs.Changes.{Outcome, begun}
 use Rattle.posix_model.specs.Deliveries.{pend, killed_by}
 use Rattle.posix_model.specs.Arrivals.{dropped, arrive_signal}
-use Rattle.posix_model.specs.Journals.{Kind, OfSignal, kind_of, entry_at}
+use Rattle.posix_model.specs.Journals.{OfSignal, kind_of, entry_at}
 use Rattle.posix_model.specs.Runs.{Rules, make, arrived, told_at}
 use Rattle.posix_model.specs.declared.Head.TheVariants.{ArriveSig}
 use Rattle.posix_model.specs.declared.Move.TheVariants.{Arrive}
 use Rattle.posix_model.proofs.PendingMoves.{in_range}
 use Rattle.kernel_state.specs.Outside.{OutsideState, gather, gathered, drained, is_nothing}
-use Rattle.kernel_state.specs.Presented.{Stands, kind_of_event}
+use Rattle.kernel_state.specs.Presented.{kind_of_event}
 use Rattle.kernel_state.proofs.ArrivalLemmas.{drained_entry}
 use Rattle.kernel_state.proofs.PresentedLemmas.{stands_gathered}
 use Rattle.dispatcher.specs.Arriving.{is_empty, StandsForSome, AreSignals}

@@ -1,9 +1,8 @@
 -- The main line of the next delivery, and how many entries of the empty journal were taken.
-use Rattle.std.proofs.Common.{◌≡◌, ◌∙◌, ap, sym, refl, subst, arith, ℕ, Bool, true, false, Some}
+use Rattle.std.proofs.Common.{◌≡◌, ap, sym, refl, subst, arith, ℕ, Bool, true, false, Some}
 use Rattle.std.specs.Prelude.{if◌then◌else◌}
 use Rattle.thread_base.specs.Actions.{ignores}
 use Rattle.thread_base.specs.Deliveries.{signals, waits_for}
-use Rattle.thread_base.specs.Maps.{put}
 use Rattle.thread_base.specs.declared.action.Action.{Action}
 use Rattle.thread_base.specs.declared.action.Action.TheVariants.{Default, Ignore, Handler}
 use Rattle.posix_model.specs.State.{State, Target, Nothing, EndOf, MutexAt, ConditionAt, ASignal, ATime, Input, target}

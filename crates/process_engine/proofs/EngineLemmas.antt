@@ -1,5 +1,5 @@
 -- A process at rest and in a move, and its first instruction of a move.
-use Rattle.std.proofs.Common.{◌≡◌, ◌∙◌, ap, sym, refl, subst, inl, inr, ℕ, ◌+◌, ◌≤◌, true, false, List, [], ◌∷◌, length, drop, Option, Some, None, arith}
+use Rattle.std.proofs.Common.{◌≡◌, ◌∙◌, ap, sym, refl, subst, inl, inr, ℕ, ◌+◌, ◌≤◌, true, false, List, [], length, Option, Some, None, arith}
 use Rattle.thread_base.specs.Priority.{tids}
 use Rattle.journal_text.specs.Contents.{Contents, empty}
 use Rattle.journal_text.specs.Valid.{IsJournal}

@@ -11,9 +11,9 @@ use Rattle.rv_exec.specs.declared.Event.{Event}
 use Rattle.rv_exec.specs.declared.Event.TheVariants.{Next, Ecall, Fault, Return}
 use Rattle.rv_exec.specs.declared.Special.{Special}
 use Rattle.rv_exec.specs.declared.Special.TheVariants.{Handler, Cleanup, Start}
-use Rattle.posix_model.specs.State.{State, Thread, Registers, Frame, Phase, Normal, Leaving, is_of_handler}
+use Rattle.posix_model.specs.State.{State, Frame, Phase, Normal, Leaving, is_of_handler}
 use Rattle.posix_model.specs.Scheduling.{chosen}
-use Rattle.posix_model.specs.Changes.{Outcome, begun, set_registers, set_thread}
+use Rattle.posix_model.specs.Changes.{Outcome, begun, set_thread}
 use Rattle.posix_model.specs.Deliveries.{next_delivery, faulted}
 use Rattle.posix_model.specs.Instructions.{instruction, by_effect, returned, handler_returned, cleanup_returned, start_returned, told_return, segmentation_fault}
 use Rattle.posix_model.specs.Reports.{nothing_told}

@@ -9,7 +9,7 @@ use Rattle.posix_model.specs.declared.Move.{Move}
 use Rattle.posix_model.specs.declared.Report.{Report}
 use Rattle.posix_model.proofs.TraceLemmas.{IsRun-more, after-more, moves_left, moves_fall}
 use Rattle.process_engine.specs.Engine.{Position}
-use Rattle.process_engine.specs.Turns.{Tells, Moves, Leaves, Stops, IsTurn}
+use Rattle.process_engine.specs.Turns.{Tells, Moves, IsTurn}
 use Rattle.process_engine.specs.Whole.{RunsToEnd}
 use Rattle.process_engine.specs.declared.Turn.TheVariants.{Quiet, Made, Ended}
 

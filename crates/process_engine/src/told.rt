@@ -54,10 +54,8 @@ fn is_delivery(head: &Head) -> bool
     ensures { result ≡ is_delivery_line head.now }
 {
     match head {
-        Head::Deliver { .. }
-        | Head::Accept { .. }
-        | Head::Interrupt { .. }
-        | Head::Cancel { .. } => true,
+        Head::Deliver { .. } | Head::Accept { .. } | Head::Interrupt { .. } | Head::Cancel { .. } =>
+            true,
         _ => false,
     }
 }

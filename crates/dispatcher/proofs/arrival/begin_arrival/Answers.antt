@@ -1,7 +1,5 @@
-use Rattle.std.proofs.Common.{◌≡◌, ◌∙◌, ap, sym, subst, arith, ℕ, ◌≤◌, ◌-◌, true, false, is_some, List, length, Option, Some, None}
+use Rattle.std.proofs.Common.{◌≡◌, ◌∙◌, ap, sym, subst, ◌≤◌, ◌-◌, true, false, is_some, length, Some, None}
 use Rattle.std.specs.Prelude.{slice_get}
-use Rattle.thread_base.specs.declared.Place.{Place}
-use Rattle.journal_text.specs.declared.entry.Entry.{Entry}
 use Rattle.posix_model.specs.State.{State}
 use Rattle.posix_model.specs.Changes.{Outcome, begun}
 use Rattle.posix_model.specs.Arrivals.{arrive_signal}
@@ -11,7 +9,7 @@ use Rattle.posix_model.specs.declared.Head.TheVariants.{ArriveSig}
 use Rattle.kernel_state.specs.View.{view}
 use Rattle.kernel_state.specs.Begun.{IsBegun}
 use Rattle.kernel_state.specs.Kernels.{KernelState}
-use Rattle.kernel_state.specs.Outside.{OutsideState, drained, gather}
+use Rattle.kernel_state.specs.Outside.{OutsideState}
 use Rattle.kernel_state.specs.declared.tables.Tables.{Tables}
 use Rattle.dispatcher.specs.Arriving.{rules_of}
 use Rattle.dispatcher.proofs.ArrivalLemmas.{some_drained, drained_signal, signal_arrives, first_within}

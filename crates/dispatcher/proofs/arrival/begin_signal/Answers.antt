@@ -1,4 +1,4 @@
-use Rattle.std.proofs.Common.{◌≡◌, ap, subst, arith, ℕ, ◌<◌, None}
+use Rattle.std.proofs.Common.{subst, arith}
 use Rattle.posix_model.specs.Changes.{begun}
 use Rattle.posix_model.specs.Arrivals.{arrive_signal}
 use Rattle.posix_model.specs.declared.Head.TheVariants.{ArriveSig}

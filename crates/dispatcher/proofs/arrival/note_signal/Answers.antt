@@ -1,4 +1,4 @@
-use Rattle.std.proofs.Common.{◌≡◌, ◌∙◌, ap, sym, subst, arith, ℕ, None}
+use Rattle.std.proofs.Common.{◌∙◌, ap, sym, subst, arith}
 use Rattle.thread_base.specs.Actions.{ignores}
 use Rattle.thread_base.specs.declared.action.Action.{Action}
 use Rattle.posix_model.specs.State.{State}

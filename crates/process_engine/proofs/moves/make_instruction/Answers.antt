@@ -1,4 +1,4 @@
-use Rattle.std.proofs.Common.{◌≡◌, ◌∙◌, ap, sym, subst}
+use Rattle.std.proofs.Common.{◌∙◌, ap, sym, subst}
 use Rattle.posix_model.specs.Instructions.{instruction}
 use Rattle.kernel_state.specs.Executing.{HasExecuted}
 use Rattle.kernel_state.specs.Begun.{CanBegin}

@@ -1,6 +1,5 @@
 use Rattle.std.proofs.Common.{◌∙◌, ap, sym, refl}
 use Rattle.posix_model.specs.Deliveries.{next_delivery}
-use Rattle.posix_model.specs.Scheduling.{chosen}
 use Rattle.kernel_state.specs.View.{view}
 use Rattle.kernel_state.specs.declared.tables.Tables.{Tables}
 use Rattle.process_engine.specs.Engine.{Engine, order}

@@ -1,5 +1,4 @@
-use Rattle.std.proofs.Common.{◌≤◌, subst}
-use Rattle.process_engine.specs.Engine.{Engine, moment_of}
+use Rattle.process_engine.specs.Engine.{moment_of}
 use Rattle.process_engine.proofs.EngineLemmas.{is_journal}
 use Rattle.process_engine.proofs.RunLemmas.{part_front}
 use Rattle.process_engine.proofs.process.Process.run.Goals as goal
