@@ -3,6 +3,8 @@
 
 mod arrival;
 mod delivery;
+#[cfg(test)]
+mod delivery_tests;
 
 pub use arrival::begin_arrival;
 pub use delivery::begin_delivery;
