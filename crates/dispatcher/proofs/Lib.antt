@@ -2,3 +2,4 @@ pub mod ArrivalLemmas
 pub mod TakeLemmas
 pub mod WaitLemmas
 pub mod DeliverLemmas
+pub mod SettingLemmas

@@ -3,6 +3,8 @@
 
 mod arrival;
 mod delivery;
+#[cfg(test)]
+mod delivery_tests;
 mod next;
 
 pub use arrival::begin_arrival;
