@@ -1,7 +1,7 @@
-ghost use Rattle.std.specs.Prelude.{◌≡◌, None, IfSome, is_some};
+ghost use Rattle.std.specs.Prelude.{◌≡◌, true, None, IfSome, is_some};
 ghost use Rattle.posix_model.specs.Threads.{exists};
 ghost use Rattle.posix_model.specs.Trace.{left};
-ghost use Rattle.kernel_state.specs.Records.{thread_in};
+ghost use Rattle.kernel_state.specs.Records.{thread_in, top_kind};
 ghost use Rattle.process_engine.specs.Engine.{moment_of, position_of};
 ghost use Rattle.process_engine.specs.Whole.{RunsToEnd};
 
@@ -10,7 +10,7 @@ use crate::process::Process;
 use kernel_state::ThreadRecord;
 use posix_model::Ending;
 use rv_exec::Memory;
-use thread_base::Tid;
+use thread_base::{FrameKind, Tid};
 
 impl Process {
     /// Makes the rest of the run, and tells how it ended. Nothing is written, and no memory is taken.
@@ -36,6 +36,15 @@ impl Process {
         ensures there { is_some result ≡ exists (moment_of self.now).state t }
     {
         self.tables().find(t)
+    }
+
+    /// What the last frame of a thread is for that is there, where no move is in progress; None exactly where it has none.
+    pub fn top(&self, t: Tid) -> Option<FrameKind>
+        requires at_rest { (position_of self.now).telling ≡ None }
+        requires there { exists (moment_of self.now).state t ≡ true }
+        ensures { result ≡ top_kind ((moment_of self.now).state.threads t).frames }
+    {
+        self.tables().top(t)
     }
 
     /// The memory, where no move is in progress.

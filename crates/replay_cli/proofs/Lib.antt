@@ -1,2 +1,3 @@
 pub mod FailureLines
 pub mod PlaceLines
+pub mod Faults

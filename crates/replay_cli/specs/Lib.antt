@@ -4,4 +4,5 @@ pub mod Failures
 pub mod Headline
 pub mod Causes
 pub mod Addresses
+pub mod Events
 pub mod Places

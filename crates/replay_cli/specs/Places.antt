@@ -1,17 +1,21 @@
 -- Where the threads stand at the end of a run, as lines (this project's own format).
-use Rattle.std.specs.Prelude.{ℕ, ◌/◌, ◌%◌, List, [], ◌∷◌, ◌++◌, codes, slice_index, if◌then◌else◌, Option, Some, None}
+use Rattle.std.specs.Prelude.{ℕ, ◌/◌, ◌%◌, ◌==◌, ◌&&◌, Bool, false, List, [], ◌∷◌, ◌++◌, codes, slice_index, if◌then◌else◌, Option, Some, None}
 use Rattle.std.specs.List.{flat_map}
 use Rattle.thread_base.specs.Priority.{tids}
 use Rattle.replay_io.specs.Writing.{Appended, AppendedFront}
 use Rattle.posix_model.specs.State.{State, Thread, Registers, Phase, Normal, Leaving, Standing, Absent, Ready, Waits, Ended, is_absent}
+use Rattle.posix_model.specs.Instructions.{instruction}
 use Rattle.posix_model.specs.Laws.{IsWholeRun}
 use Rattle.posix_model.specs.Lines.{number, hex_byte}
 use Rattle.posix_model.specs.Runs.{Moment, after}
+use Rattle.posix_model.specs.Threads.{exists}
 use Rattle.posix_model.specs.Trace.{end_text}
 use Rattle.posix_model.specs.declared.Wait.{Wait}
 use Rattle.posix_model.specs.declared.Wait.TheVariants.{Join, Mutex, Cond, Reacquire, Signal, Sleep, Read}
 use Rattle.posix_model.specs.declared.Ending.{Ending}
 use Rattle.posix_model.specs.declared.Ending.TheVariants.{Exit, Killed, Idle, Budget}
+use Rattle.posix_model.specs.declared.Head.{Head}
+use Rattle.posix_model.specs.declared.Head.TheVariants.{Fault}
 use Rattle.posix_model.specs.declared.Move.{Move}
 use Rattle.replay_cli.specs.Addresses.{address_at}
 use Rattle.replay_cli.specs.Headline.{default_rules, IsStartOf}
@@ -66,12 +70,22 @@ unfoldable pub fault_line : ℕ → ℕ → Registers → List ℕ → List ℕ
 fault_line t signal r memory =
     codes "fault" ++ number t ++ number signal ++ codes " address" ++ hex_word (address_at r.pc r.x memory) ++ 10 ∷ []
 
--- the same of the thread of the last instruction, where it is there
+-- a move is a fault with this signal
+abbrev pub is_fault : ℕ → Head → Bool
+is_fault signal (Fault sig) = sig == signal
+is_fault signal head = false
+
+-- the instruction at which a thread stands faults with this signal
+unfoldable pub faults_with : State → ℕ → ℕ → Bool
+faults_with s t signal = is_fault signal (instruction s t).report.head
+
+-- where it does at the thread of the last instruction, the line of the fault
 abbrev pub fault_of : State → Option ℕ → ℕ → List ℕ
 fault_of s None signal = []
-fault_of s (Some t) signal = if is_absent (s.threads t).standing then [] else fault_line t signal (s.threads t).registers s.memory
+fault_of s (Some t) signal = if exists s t && faults_with s t signal then fault_line t signal (s.threads t).registers s.memory else []
 
--- where a fault ended the run, its line: only faults raise a signal as yet
+-- where a signal ended the run, and the thread of the last instruction stands at a fault with it, the line of that fault:
+-- a fault leaves registers and memory, so its thread still stands there
 unfoldable pub fault_text : Moment → Ending → List ℕ
 fault_text now (Exit value) = []
 fault_text now (Killed signal) = fault_of now.state now.last signal

@@ -3,6 +3,7 @@
 
 mod accepted;
 mod address;
+mod event;
 mod failure;
 mod journal;
 mod lines;

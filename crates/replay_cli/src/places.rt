@@ -1,15 +1,19 @@
 ghost use Rattle.std.specs.Prelude.{◌≡◌, ◌≢◌, ◌⊎◌, ◌↔◌, ◌++◌, true, false, codes, IfSome, IfErr, OnOk, List, ℕ, None, Some};
 ghost use Rattle.replay_io.specs.Writing.{Writes};
+ghost use Rattle.posix_model.specs.Threads.{exists};
 ghost use Rattle.posix_model.specs.Trace.{end_text};
+ghost use Rattle.kernel_state.specs.Records.{thread_in};
 ghost use Rattle.process_engine.specs.Engine.{moment_of, position_of};
 ghost use Rattle.replay_cli.specs.Words.{are_accepted, image_name, journal_name};
 ghost use Rattle.replay_cli.specs.Headline.{loaded};
 ghost use Rattle.replay_cli.specs.Causes.{IsJournal, Cause, Fails, IsSmooth};
-ghost use Rattle.replay_cli.specs.Places.{place_at, place_lines, fault_of, fault_text, places_text, TellsPlacesOf, TellsFrontOf};
+ghost use Rattle.replay_cli.specs.Places.{place_at, place_lines, faults_with, fault_of, fault_text, places_text, TellsPlacesOf, TellsFrontOf};
 
+use crate::event::{event_at, faults_by};
 use crate::failure::{Failure, Status};
 use crate::lines::{put_fault, put_place};
 use crate::top::accept;
+use kernel_state::ThreadRecord;
 use posix_model::Ending;
 use process_engine::Process;
 use replay_io::{Files, Sink, SinkFailed, Words};
@@ -40,7 +44,18 @@ fn put_all_places<O: Sink>(process: &Process, out: &mut O) -> Result<(), SinkFai
     Ok(())
 }
 
-/// Writes the line of a fault with this signal, of the thread of the last instruction.
+/// Whether the instruction at which a thread stands faults with this signal.
+fn faults_with(process: &Process, t: Tid, known: &ThreadRecord, signal: Sig) -> bool
+    requires at_rest { (position_of process.now).telling ≡ None }
+    requires there { exists (moment_of process.now).state t ≡ true }
+    requires known { thread_in known.now ((moment_of process.now).state.threads t).frames ≡ (moment_of process.now).state.threads t }
+    ensures { result ≡ faults_with (moment_of process.now).state t signal }
+{
+    let event = event_at(&known.regs, process.memory());
+    faults_by(event, &process.top(t), &known.activity.leaving, signal)
+}
+
+/// Writes the line of the fault with this signal of the thread of the last instruction, where it stands at one.
 #[tactic(auto, using(replay_io::proofs::WritingLemmas::writes_nothing))]
 fn put_fault_of<O: Sink>(process: &Process, signal: Sig, out: &mut O) -> Result<(), SinkFailed>
     requires { (position_of process.now).telling ≡ None }
@@ -51,11 +66,18 @@ fn put_fault_of<O: Sink>(process: &Process, signal: Sig, out: &mut O) -> Result<
     };
     match process.find(t) {
         None => Ok(()),
-        Some(known) => put_fault(t, signal, &known.regs, process.memory(), out),
+        Some(known) => {
+            if faults_with(process, t, &known, signal) {
+                put_fault(t, signal, &known.regs, process.memory(), out)
+            } else {
+                Ok(())
+            }
+        }
     }
 }
 
-/// Writes the line of the fault that ended the run, where one did.
+/// Writes the line of the fault, where a signal ended the run and the thread of the last instruction stands at a fault
+/// with it.
 #[tactic(auto, unfolding(crate::specs::Places::fault_text), using(replay_io::proofs::WritingLemmas::writes_nothing))]
 fn put_last_fault<O: Sink>(
     process: &Process,
@@ -120,8 +142,9 @@ fn attempt_places<F: Files, O: Sink>(
 }
 
 /// Makes the run that `replay` makes of the same words and files, and writes to `out` where its threads stand at
-/// its end: for each thread a line, for a fault that ended the run another, and the last lines of the trace. Where
-/// it does not come to that it writes one line to `err` and tells why by its status, as `replay` does.
+/// its end: for each thread a line, another where a signal ended the run and the thread of the last instruction stands
+/// at a fault with it, and the last lines of the trace. Where it does not come to that it writes one line to `err` and
+/// tells why by its status, as `replay` does.
 pub fn tell_places<F: Files, O: Sink, E: Sink>(
     alloc: Global,
     words: &Words,

@@ -268,3 +268,123 @@ fn places_are_told(rt: HostRuntime) -> Result<(), Fail> {
     };
     check_places(&rt, alloc, &failed)
 }
+
+/// The smallest image with other code, of eleven words at most.
+fn coded(alloc: Global, words: &[u32]) -> Result<Vec<u8>, Fail> {
+    let mut bytes = Vec::from_elem(alloc, 0, 128)?;
+    put(&mut bytes, 0, &SMALLEST[..84]);
+    // the size in the file and in memory
+    put(&mut bytes, 68, &[128, 0, 0, 0, 128, 0, 0, 0]);
+    for (i, word) in words.iter().enumerate() {
+        put(
+            &mut bytes,
+            84usize.saturating_add(i.saturating_mul(4)),
+            &word.to_le_bytes(),
+        );
+    }
+    Ok(bytes)
+}
+
+#[test]
+fn faults_are_told(rt: HostRuntime) -> Result<(), Fail> {
+    let alloc = rt.alloc();
+    let faults: [(u32, &[u8]); 10] = [
+        // a jump by 2
+        (
+            0x0020_006f,
+            b"thread 1 ready pc 0x00010054 ra 0xffffffd0 sp 0x00410000\nfault 1 7 address 0x00010056\nend killed 7\n",
+        ),
+        // a branch by 2 that is taken
+        (
+            0x0000_0163,
+            b"thread 1 ready pc 0x00010054 ra 0xffffffd0 sp 0x00410000\nfault 1 7 address 0x00010056\nend killed 7\n",
+        ),
+        // EBREAK, and a word that is no instruction
+        (
+            0x0010_0073,
+            b"thread 1 ready pc 0x00010054 ra 0xffffffd0 sp 0x00410000\nfault 1 5 address 0x00010054\nend killed 5\n",
+        ),
+        (
+            0,
+            b"thread 1 ready pc 0x00010054 ra 0xffffffd0 sp 0x00410000\nfault 1 4 address 0x00010054\nend killed 4\n",
+        ),
+        // loads of a word from 0 and from 2
+        (
+            0x0000_2503,
+            b"thread 1 ready pc 0x00010054 ra 0xffffffd0 sp 0x00410000\nfault 1 11 address 0x00000000\nend killed 11\n",
+        ),
+        (
+            0x0020_2503,
+            b"thread 1 ready pc 0x00010054 ra 0xffffffd0 sp 0x00410000\nfault 1 7 address 0x00000002\nend killed 7\n",
+        ),
+        // stores of a word behind the window and of half a word to 1
+        (
+            0x0001_2023,
+            b"thread 1 ready pc 0x00010054 ra 0xffffffd0 sp 0x00410000\nfault 1 11 address 0x00410000\nend killed 11\n",
+        ),
+        (
+            0x0000_10a3,
+            b"thread 1 ready pc 0x00010054 ra 0xffffffd0 sp 0x00410000\nfault 1 7 address 0x00000001\nend killed 7\n",
+        ),
+        // returns of a handler and of a cleanup routine that are not due
+        (
+            0x0200_8067,
+            b"thread 1 ready pc 0xfffffff0 ra 0xffffffd0 sp 0x00410000\nfault 1 11 address 0xfffffff0\nend killed 11\n",
+        ),
+        (
+            0x0100_8067,
+            b"thread 1 ready pc 0xffffffe0 ra 0xffffffd0 sp 0x00410000\nfault 1 11 address 0xffffffe0\nend killed 11\n",
+        ),
+    ];
+    for (word, out) in faults {
+        let image = coded(alloc, &[word])?;
+        check_places(&rt, alloc, &given(&image, EMPTY, Status::Ran, out, b""))?;
+    }
+    Ok(())
+}
+
+#[test]
+fn returns_in_a_handler(rt: HostRuntime) -> Result<(), Fail> {
+    let alloc = rt.alloc();
+    // in the handler of 10, a return of a first routine and one of a cleanup routine
+    let returns: [(u32, &[u8]); 2] = [
+        (
+            0xfe00_8067,
+            b"thread 1 ready pc 0xffffffd0 ra 0xfffffff0 sp 0x00410000\nfault 1 11 address 0xffffffd0\nend killed 11\n",
+        ),
+        (
+            0xff00_8067,
+            b"thread 1 ready pc 0xffffffe0 ra 0xfffffff0 sp 0x00410000\nfault 1 11 address 0xffffffe0\nend killed 11\n",
+        ),
+    ];
+    for (word, out) in returns {
+        let image = coded(
+            alloc,
+            &[
+                0x00a0_0513,
+                0x0000_0597,
+                0x01c5_8593,
+                0x11e0_0893,
+                0x0000_0073,
+                0x00a0_0513,
+                0x1230_0893,
+                0x0000_0073,
+                word,
+            ],
+        )?;
+        check_places(&rt, alloc, &given(&image, EMPTY, Status::Ran, out, b""))?;
+    }
+    Ok(())
+}
+
+#[test]
+fn signals_that_are_sent_are_no_faults(rt: HostRuntime) -> Result<(), Fail> {
+    let alloc = rt.alloc();
+    let killed = b"thread 1 ready pc 0x00010060 ra 0xffffffd0 sp 0x00410000\nend killed 7\n";
+    // it sends itself 7, and stands at a branch by 2 that is not taken, at EBREAK, and at a plain instruction
+    for word in [0x0000_1163, 0x0010_0073, 0x0000_0013] {
+        let image = coded(alloc, &[0x0070_0513, 0x1230_0893, 0x0000_0073, word])?;
+        check_places(&rt, alloc, &given(&image, EMPTY, Status::Ran, killed, b""))?;
+    }
+    Ok(())
+}
