@@ -6,4 +6,6 @@ mod calls;
 #[cfg(test)]
 mod joins;
 #[cfg(test)]
+mod signals;
+#[cfg(test)]
 mod threads;
