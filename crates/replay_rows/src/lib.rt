@@ -6,6 +6,4 @@ mod calls;
 #[cfg(test)]
 mod joins;
 #[cfg(test)]
-mod signals;
-#[cfg(test)]
 mod threads;

@@ -4,6 +4,4 @@
 #[cfg(test)]
 mod conditions;
 #[cfg(test)]
-mod handlers;
-#[cfg(test)]
 mod mutexes;
