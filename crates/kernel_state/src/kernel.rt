@@ -100,6 +100,7 @@ impl<R: Ready + Drop> Kernel<R> {
         ensures start { IfOk result (λ k. view R.order k.tables ≡ start_state memory entry.0) }
         ensures idle { IfOk result IsIdle }
         ensures settings { IfOk result (λ k. k.settings ≡ settings) }
+        ensures outside { IfOk result (λ k. k.outside.presented ≡ 0) }
         ensures ready { IfOk result (λ k. CanBegin R.order k 1) }
     {
         Ok(Kernel {
