@@ -2,4 +2,3 @@ pub mod ArrivalLemmas
 pub mod TakeLemmas
 pub mod WaitLemmas
 pub mod DeliverLemmas
-pub mod SettingLemmas

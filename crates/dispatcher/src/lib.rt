@@ -3,8 +3,6 @@
 
 mod arrival;
 mod delivery;
-#[cfg(test)]
-mod delivery_tests;
 mod next;
 
 pub use arrival::begin_arrival;

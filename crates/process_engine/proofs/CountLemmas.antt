@@ -1,6 +1,7 @@
 -- What moves count.
 use Rattle.std.proofs.Common.{◌≡◌, ◌∙◌, ap, sym, refl, ℕ, ◌+◌, ◌*◌, ◌≤◌, Bool, true, false, List, [], ◌∷◌, ◌++◌, length, Option, None, Some, add-zero, zero-add, add_assoc, arith}
 use Rattle.std.proofs.lemmas.Bool.{eq-eqb}
+use Rattle.thread_base.specs.declared.Place.{Place}
 use Rattle.posix_model.specs.Runs.{Rules, Moment, make, moved, after}
 use Rattle.posix_model.specs.declared.Head.{Head}
 use Rattle.posix_model.specs.declared.Head.TheVariants.{Quiet}
@@ -62,6 +63,22 @@ delivery_counts rules now last head by is = λ i. record {
   calls = one_if (sym is.no_call i);
   arrivals = one_if (sym is.no_arrival i);
   deliveries = one_if (sym is.delivery i);
+  switches = one_if (sym (ap (is_switch now.last) by ∙ same_thread now.last) i);
+}
+
+-- a main line of an arrival
+pub record IsArrivalMain (head : Head) : Type 0 where
+  pub arrival : is_arrival head ≡ true
+  pub no_call : is_call head ≡ false
+  pub no_delivery : is_delivery head ≡ false
+
+pub arrival_counts : (rules : Rules) (now : Moment) (last : Option ℕ) (first count : ℕ) (at : Place) (head : Head) → last ≡ now.last → IsArrivalMain head
+    → told_of (counted rules now (Arrive first count at)) ≡ told_by now.last last head
+arrival_counts rules now last first count at head by is = λ i. record {
+  instructions = 0;
+  calls = one_if (sym is.no_call i);
+  arrivals = one_if (sym is.arrival i);
+  deliveries = one_if (sym is.no_delivery i);
   switches = one_if (sym (ap (is_switch now.last) by ∙ same_thread now.last) i);
 }
 

@@ -1,24 +1,17 @@
--- The main line of the next delivery, and how many entries of the empty journal were taken.
+-- The main line of the next delivery.
 use Rattle.std.proofs.Common.{◌≡◌, ap, sym, refl, subst, arith, ℕ, Bool, true, false, Some}
 use Rattle.std.specs.Prelude.{if◌then◌else◌}
 use Rattle.thread_base.specs.Actions.{ignores}
-use Rattle.thread_base.specs.Deliveries.{signals, waits_for}
+use Rattle.thread_base.specs.Deliveries.{waits_for}
 use Rattle.thread_base.specs.declared.action.Action.{Action}
 use Rattle.thread_base.specs.declared.action.Action.TheVariants.{Default, Ignore, Handler}
 use Rattle.posix_model.specs.State.{State, Target, Nothing, EndOf, MutexAt, ConditionAt, ASignal, ATime, Input, target}
 use Rattle.posix_model.specs.Changes.{Outcome, begun, answer}
 use Rattle.posix_model.specs.Deliveries.{Delivery, Acts, Gives, next_delivery, delivered, deliver, given, by_action, handled, set_pending, told, awaited}
 use Rattle.posix_model.specs.Good.{IsGood}
-use Rattle.posix_model.specs.Journals.{nothing_taken}
-use Rattle.posix_model.specs.Laws.{taken_in_all}
 use Rattle.posix_model.specs.declared.Head.TheVariants.{Accept}
 use Rattle.posix_model.proofs.NextLemmas.{given_pends}
 use Rattle.process_engine.proofs.CountLemmas.{IsDeliveryMain}
-
--- of the journal without an entry none is taken
-pub none_taken : taken_in_all nothing_taken ≡ 0
-unfolding signals
-none_taken = refl
 
 handled_main : (s : State) (t sig count at mask : ℕ) (a : Target) → IsDeliveryMain (handled s t sig count at mask a).report.head
 handled_main s t sig count at mask Nothing = record { delivery = refl; no_call = refl; no_arrival = refl }

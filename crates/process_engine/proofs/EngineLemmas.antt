@@ -1,21 +1,25 @@
 -- A process at rest and in a move, and its first instruction of a move.
-use Rattle.std.proofs.Common.{◌≡◌, ◌∙◌, ap, sym, refl, subst, inl, inr, ℕ, ◌+◌, ◌≤◌, true, false, List, [], length, Option, Some, None, arith}
-use Rattle.thread_base.specs.Priority.{tids}
-use Rattle.journal_text.specs.Contents.{Contents, empty}
+use Rattle.std.proofs.Common.{◌≡◌, ◌∙◌, ap, sym, refl, subst, inl, inr, ℕ, ◌+◌, ◌<◌, ◌≤◌, Bool, true, false, ◌&&◌, List, [], ◌∷◌, length, Option, Some, None, arith}
+use Rattle.std.specs.Prelude.{min, is_none}
+use Rattle.std.proofs.lemmas.Bool.{cases_Bool}
+use Rattle.thread_base.specs.Orders.{is_in, is_nil}
+use Rattle.thread_base.specs.Priority.{tids, first_greatest}
+use Rattle.thread_base.proofs.PriorityLemmas.{first_some}
+use Rattle.journal_text.specs.Contents.{Contents}
 use Rattle.journal_text.specs.Valid.{IsJournal}
 use Rattle.ready_queues.specs.Queue.{Queue}
 use Rattle.posix_model.specs.State.{State}
-use Rattle.posix_model.specs.Scheduling.{chosen}
+use Rattle.posix_model.specs.Scheduling.{chosen, eff}
 use Rattle.posix_model.specs.Changes.{Outcome}
 use Rattle.posix_model.specs.Deliveries.{Delivery, next_delivery, deliver}
 use Rattle.posix_model.specs.Laws.{IsBounded}
 use Rattle.posix_model.specs.Weights.{pending_in_all}
 use Rattle.posix_model.proofs.PendingMoves.{bounded_move}
 use Rattle.posix_model.specs.Good.{IsGood}
-use Rattle.posix_model.specs.Journals.{Taken, nothing_taken, untaken}
+use Rattle.posix_model.specs.Journals.{untaken}
 use Rattle.posix_model.specs.Instructions.{instruction}
 use Rattle.posix_model.specs.Reports.{nothing_told}
-use Rattle.posix_model.specs.Runs.{Rules, Moment, Allowed, IsTurnOf, IsIdle as IsIdleRun, Ends, make, moved, due}
+use Rattle.posix_model.specs.Runs.{Rules, Moment, Allowed, IsTurnOf, IsIdle as IsIdleRun, Ends, make, moved, due, is_waiting, is_settled}
 use Rattle.posix_model.specs.Lines.{lines, head_line, alarm_line, out_line, took_line, count_lines, sig_numbers, gone_line, done_lines, done_line}
 use Rattle.posix_model.specs.declared.Ending.{Ending}
 use Rattle.posix_model.specs.declared.Ending.TheVariants.{Budget, Idle}
@@ -25,22 +29,26 @@ use Rattle.posix_model.specs.declared.Move.{Move}
 use Rattle.posix_model.specs.declared.Move.TheVariants.{Instr, Arrive, Deliver}
 use Rattle.posix_model.specs.declared.Report.{Report}
 use Rattle.posix_model.proofs.GoodMoves.{goodness}
-use Rattle.posix_model.proofs.JournalLemmas.{empty_is_journal, no_entry_due, none_untaken}
+use Rattle.posix_model.proofs.JournalLemmas.{all_taken}
 use Rattle.trace_text.specs.Counting.{is_delivery, counted, told_of, told_by as added_by}
 use Rattle.kernel_state.specs.View.{view, outcome}
 use Rattle.kernel_state.specs.Changing.{owed}
 use Rattle.kernel_state.specs.Begun.{HasRoom, IsBegun}
 use Rattle.kernel_state.specs.Kernels.{KernelState, remaining, IsEmpty, IsIdle, owed_by}
+use Rattle.kernel_state.specs.Outside.{OutsideState}
+use Rattle.kernel_state.specs.Presented.{Stands as StandsOutside, taken_of}
 use Rattle.kernel_state.specs.declared.rest.Rest.{Rest}
-use Rattle.process_engine.specs.Engine.{Engine, order, owed_of, moment_of, position_of, telling_of, HasTurn, Stands, IsSound}
+use Rattle.dispatcher.specs.Arriving.{is_empty, AreSignals}
+use Rattle.process_engine.specs.Engine.{Engine, order, owed_of, moment_of, position_of, telling_of, rules_of, next_place, stop_of, is_due, ArePrompt, HasTurn, Stands, IsSound}
 use Rattle.process_engine.specs.Advancing.{HasGoneOn, HasBegun, BeginsInstruction, MakesPlain, BeginsMove, EndsHere, Advances}
 use Rattle.process_engine.specs.declared.stage.Advance.TheVariants.{Plain, Switched, Begun}
 use Rattle.process_engine.specs.declared.stage.Stage.{Stage}
 use Rattle.process_engine.specs.declared.stage.Stage.TheVariants.{Going, Paused, InCall}
 use Rattle.kernel_state.proofs.NoteLemmas.{idle_remaining}
 use Rattle.process_engine.proofs.CountLemmas.{IsPlainMain, IsDeliveryMain, instruction_counts, delivery_counts}
-use Rattle.process_engine.proofs.DeliveryLemmas.{delivery_main, none_taken}
+use Rattle.process_engine.proofs.DeliveryLemmas.{delivery_main}
 use Rattle.process_engine.proofs.InstructionLemmas.{has_begun}
+use Rattle.process_engine.proofs.DueLemmas.{none_presented, none_before, nothing_due, taken_few}
 
 -- at rest nothing is left, and nothing is owed
 pub none_remaining : (rest : Rest) → IsEmpty rest → length (remaining rest) ≡ 0
@@ -66,62 +74,116 @@ rests_at InCall k last report stands e = absurd (let h : Some report ≡ None = 
 pub rest_stands : (p : Engine) → IsSound p → (position_of p).telling ≡ None → IsIdle p.kernel
 rest_stands p sound e = rests_at p.stage p.kernel p.last (owed_of p).report sound.stands e
 
--- the journal without an entry is one
-pub is_journal : (rules : Rules) → rules.journal ≡ empty → IsJournal rules.journal
-is_journal rules none = subst IsJournal (sym none) empty_is_journal
-
 -- a process after a move is sound, and so is one whose run stays
 within_budget : (rules : Rules) (now : Moment) (move : Move) → Allowed rules now move → now.instructions ≤ rules.settings.budget → (moved rules now move).instructions ≤ rules.settings.budget
 within_budget rules now (Instr t) allowed within = let less = allowed.1 in omega (arith, less)
 within_budget rules now (Arrive first count at) allowed within = within
 within_budget rules now Deliver allowed within = within
 
-module _ (p q : Engine) (sound : IsSound p) (rules : q.rules ≡ p.rules) (stands : Stands order q.kernel q.last q.stage) where
-  sound_at : (now : Moment) → moment_of q ≡ now → now.instructions ≤ p.rules.settings.budget → IsGood now.state → IsBounded now → IsSound q
-  sound_at now is within good bounded =
+-- what is told where the rules are the same and what waits outside is told
+module _ (p q : Engine) (sound : IsSound p) (rules : q.rules ≡ p.rules) (stop : q.stop ≡ p.stop) (settings : q.kernel.settings ≡ p.kernel.settings)
+    (o : OutsideState) (outside : q.kernel.outside ≡ o) (journal : o.journal ≡ p.kernel.outside.journal) (presented : o.presented ≡ p.kernel.outside.presented)
+    (waits : StandsOutside o (taken_of o)) (stands : Stands order q.kernel q.last q.stage) where
+  sound_at : (now : Moment) → moment_of q ≡ now → now.instructions ≤ p.rules.settings.budget → IsGood now.state → IsBounded now → ArePrompt p.rules now o → IsSound q
+  sound_at now is within good bounded prompt =
       let budget = ap (λ (x : Rules). x.settings.budget) rules in
       let instructions = ap (λ (x : Moment). x.instructions) is in
       let limit = sound.limit in
       record {
         within = omega (arith, budget, instructions, within);
         limit = omega (arith, budget, limit);
-        journal = ap (λ (x : Rules). x.journal) rules ∙ sound.journal;
+        stop =
+            stop ∙ sound.stop
+            ∙ (λ i. stop_of (sym budget i) (next_place (sym rules i).journal (sym (ap (λ (x : OutsideState). x.presented) outside ∙ presented) i)));
+        settings = settings ∙ sound.settings ∙ sym (ap (λ (x : Rules). x.settings) rules);
+        journal = ap (λ (x : OutsideState). x.journal) outside ∙ journal ∙ sound.journal ∙ sym (ap (λ (x : Rules). x.journal) rules);
+        whole = subst (λ (x : Rules). IsJournal x.journal) (sym rules) sound.whole;
+        signals = subst (λ (x : Rules). AreSignals x.journal.entries) (sym rules) sound.signals;
+        outside = subst (λ x. StandsOutside x (taken_of x)) (sym outside) waits;
+        prompt = subst (λ x. ArePrompt q.rules (moment_of q) x) (sym outside) (subst (λ n. ArePrompt q.rules n o) (sym is) (subst (λ r. ArePrompt r now o) (sym rules) prompt));
         good = subst (λ (x : Moment). IsGood x.state) (sym is) good;
         bounded = subst IsBounded (sym is) bounded;
         stands = stands;
       }
 
-  pub sound_same : moment_of q ≡ moment_of p → IsSound q
-  sound_same same = sound_at (moment_of p) same sound.within sound.good sound.bounded
+  pub sound_same : moment_of q ≡ moment_of p → ArePrompt p.rules (moment_of p) o → IsSound q
+  sound_same same prompt = sound_at (moment_of p) same sound.within sound.good sound.bounded prompt
 
-  pub sound_moved : (move : Move) → Allowed p.rules (moment_of p) move → moment_of q ≡ moved p.rules (moment_of p) move → IsSound q
-  sound_moved move allowed leads =
+  pub sound_moved : (move : Move) → Allowed p.rules (moment_of p) move → moment_of q ≡ moved p.rules (moment_of p) move → ArePrompt p.rules (moved p.rules (moment_of p) move) o → IsSound q
+  sound_moved move allowed leads prompt =
       sound_at (moved p.rules (moment_of p) move) leads (within_budget p.rules (moment_of p) move allowed sound.within) (goodness.1 p.rules (moment_of p) move sound.good allowed)
-      (bounded_move p.rules (moment_of p) move (is_journal p.rules sound.journal) sound.bounded allowed)
+      (bounded_move p.rules (moment_of p) move sound.whole sound.bounded allowed) prompt
 
--- no entry is due
-nothing_due : (rules : Rules) (now : Moment) → rules.journal ≡ empty → due rules now ≡ []
-nothing_due rules now none = ap (λ (j : Contents). due (record rules { journal = j }) now) none ∙ no_entry_due rules.settings now
+-- where nothing waits outside, no entry was presented that is left
+pub none_prompt : (p : Engine) (now : Moment) → IsSound p → is_empty p.kernel.outside ≡ true → now.taken ≡ (moment_of p).taken → ArePrompt p.rules now p.kernel.outside
+none_prompt p now sound none same =
+    let never : (n : ℕ) → is_in n (untaken p.rules.journal.entries now.taken) ≡ true → n ≤ p.kernel.outside.presented → ⊥ =
+    λ n left low. none_presented p.rules (moment_of p) p.kernel.outside sound.whole sound.journal sound.outside none n (sym (ap (λ t. is_in n (untaken p.rules.journal.entries t)) same) ∙ left) low in
+    record {
+      due = λ n left low. absurd (never n left low);
+      placed = λ n at left low is. absurd (never n left low);
+    }
 
-nothing_left : (rules : Rules) (taken : Taken) → rules.journal ≡ empty → untaken rules.journal.entries taken ≡ []
-nothing_left rules taken none = ap (λ (j : Contents). untaken j.entries taken) none ∙ none_untaken taken
-
--- a thread is chosen, and has its turn
+-- a thread is chosen, and has its turn: nothing waits outside, and the next entry is not due
 pub record Turn (p : Engine) (t : ℕ) : Type 0 where
   pub rest : IsIdle p.kernel
+  pub nothing_waits : is_empty p.kernel.outside ≡ true
+  pub none_due : is_in (p.kernel.outside.presented + 1) (due p.rules (moment_of p)) ≡ false
   pub going_on : (view order p.kernel.tables).over ≡ None
   pub settled : next_delivery (view order p.kernel.tables) ≡ None
   pub first : chosen (view order p.kernel.tables) ≡ Some t
 
-pub going_turn : (p : Engine) → IsSound p → p.stage ≡ Going → Turn p p.kernel.tables.records.placed × (p.last ≡ Some p.kernel.tables.records.placed)
-going_turn p sound e =
-    let on = stands_at p Going sound e in
-    (record { rest = on.0; going_on = on.1.going_on; settled = on.1.settled; first = on.1.first }, on.2)
+-- where a thread is chosen, some are ready
+pub some_ready : (s : State) (t : ℕ) → chosen s ≡ Some t → is_waiting s ≡ false
+unfolding chosen
+some_ready s t first = ap (λ b. is_settled s && b) (by s.ready first) ∙ none (is_settled s)
+  where
+    by : (ready : List ℕ) → first_greatest (eff s) ready ≡ Some t → is_nil ready ≡ false
+    by [] e = let h : None ≡ Some t = e in absurd (cc)
+    by (x ∷ xs) e = refl
 
-pub chosen_turn : (p old : Engine) (t : ℕ) → p ≡ old → IsSound p → old.stage ≡ Paused → (view order old.kernel.tables).over ≡ None → next_delivery (view order old.kernel.tables) ≡ None
-    → chosen (view order old.kernel.tables) ≡ Some t → Turn p t
-chosen_turn p old t is sound paused over settled first =
-    subst (λ x. Turn x t) (sym is) (record { rest = stands_at old Paused (subst IsSound is sound) paused; going_on = over; settled = settled; first = first })
+    none : (b : Bool) → (b && false) ≡ false
+    none true = refl
+    none false = refl
+
+pub nobody_ready : (s : State) → next_delivery s ≡ None → chosen s ≡ None → is_waiting s ≡ true
+unfolding chosen
+nobody_ready s settled first = (λ i. is_none (settled i) && by s.ready first i)
+  where
+    by : (ready : List ℕ) → first_greatest (eff s) ready ≡ None → is_nil ready ≡ true
+    by [] e = refl
+    by (x ∷ xs) e = absurd (let some = first_some (eff s) x xs in let h : Some some.0 ≡ None = sym some.1 ∙ e in cc)
+
+pub going_turn : (p : Engine) → IsSound p → p.stage ≡ Going → p.instructions < p.stop → Turn p p.kernel.tables.records.placed × (p.last ≡ Some p.kernel.tables.records.placed)
+going_turn p sound e before =
+    let on = stands_at p Going sound e in
+    let busy = some_ready (moment_of p).state p.kernel.tables.records.placed (ap chosen (moment_state p on.0) ∙ on.1.first) in
+    let stop = sound.stop in
+    (record {
+      rest = on.0;
+      nothing_waits = on.1.nothing_waits;
+      none_due = none_before p.rules (moment_of p) p.kernel.outside sound.whole sound.journal sound.outside p.rules.settings.budget busy (omega (arith, before, stop));
+      going_on = on.1.going_on;
+      settled = on.1.settled;
+      first = on.1.first;
+    }, on.2)
+
+-- the next entry is not due at rest
+pub not_due : (p : Engine) → IsSound p → (position_of p).telling ≡ None → is_due p ≡ false → is_in (p.kernel.outside.presented + 1) (due p.rules (moment_of p)) ≡ false
+not_due p sound rest none = sym (ap (λ o. is_none o && is_in (p.kernel.outside.presented + 1) (due p.rules (moment_of p))) rest) ∙ none
+
+pub chosen_turn : (p old : Engine) (t : ℕ) → p ≡ old → IsSound p → old.stage ≡ Paused → is_due old ≡ false → is_empty old.kernel.outside ≡ true → (view order old.kernel.tables).over ≡ None
+    → next_delivery (view order old.kernel.tables) ≡ None → chosen (view order old.kernel.tables) ≡ Some t → Turn p t
+chosen_turn p old t is sound paused none_due nothing over settled first =
+    let sound_old = subst IsSound is sound in
+    subst (λ x. Turn x t) (sym is) (record {
+      rest = stands_at old Paused sound_old paused;
+      nothing_waits = nothing;
+      none_due = not_due old sound_old (ap (λ s. telling_of s (owed_of old).report) paused) none_due;
+      going_on = over;
+      settled = settled;
+      first = first;
+    })
 
 -- the chosen thread is put in place
 module _ (p : Engine) (t : ℕ) (turn : Turn p t) (k : KernelState Queue) (same : view order k.tables ≡ view order p.kernel.tables) (placed : k.tables.records.placed ≡ t)
@@ -134,26 +196,30 @@ module _ (p : Engine) (t : ℕ) (turn : Turn p t) (k : KernelState Queue) (same 
 
   pub placed_turn : HasTurn order k
   placed_turn = record {
+    nothing_waits = ap (λ (x : KernelState Queue). is_empty x.outside) others ∙ turn.nothing_waits;
     going_on = ap (λ (s : State). s.over) same ∙ turn.going_on;
     settled = ap next_delivery same ∙ turn.settled;
     first = ap chosen same ∙ turn.first ∙ ap Some (sym placed);
   }
 
--- what pends leaves room for more: no more pends than instructions were made
+-- what pends leaves room for more: no more pends than instructions and entries brought
 pub has_room : (p : Engine) (k : KernelState Queue) → IsSound p → IsIdle p.kernel → view order k.tables ≡ view order p.kernel.tables → HasRoom (view order k.tables)
 has_room p k sound rest same =
     let state = ap pending_in_all (moment_state p rest ∙ sym same) in
     let sum = sound.bounded.sum in
     let within = sound.within in
     let limit = sound.limit in
-    omega (arith, state, sum, within, limit, none_taken)
+    let few = sound.whole.few in
+    let taken = taken_few p.kernel.outside.journal.entries (taken_of p.kernel.outside) p.kernel.outside.presented p.kernel.outside.log.slots p.kernel.outside.unix.pending sound.outside
+    (let same = ap (λ (j : Contents). length j.entries) sound.journal in omega (arith, same, few)) in
+    omega (arith, state, sum, within, limit, taken)
 
-turn_of : (p : Engine) (t : ℕ) → p.rules.journal ≡ empty → Turn p t → IsTurnOf p.rules (moment_of p) t
-turn_of p t none turn =
+turn_of : (p : Engine) (t : ℕ) → IsSound p → Turn p t → IsTurnOf p.rules (moment_of p) t
+turn_of p t sound turn =
     let same = moment_state p turn.rest in
     record {
       going_on = ap (λ (s : State). s.over) same ∙ turn.going_on;
-      nothing_due = nothing_due p.rules (moment_of p) none;
+      nothing_due = nothing_due p.rules (moment_of p) p.kernel.outside sound.whole sound.journal sound.outside turn.nothing_waits turn.none_due;
       settled = ap next_delivery same ∙ turn.settled;
       first = ap chosen same ∙ turn.first;
     }
@@ -165,20 +231,23 @@ has_ended p old ending is ends = subst (λ x. EndsHere x x ending) is (record { 
 pub is_over : (p old : Engine) (ending : Ending) → p ≡ old → IsIdle p.kernel → (view order p.kernel.tables).over ≡ Some ending → EndsHere old old ending
 is_over p old ending is rest over = has_ended p old ending is (inl (ap (λ (s : State). s.over) (moment_state p rest) ∙ over))
 
-pub is_idle : (p old : Engine) → p ≡ old → IsSound p → IsIdle p.kernel → (view order p.kernel.tables).over ≡ None → next_delivery (view order p.kernel.tables) ≡ None
-    → chosen (view order p.kernel.tables) ≡ None → EndsHere old old Idle
-is_idle p old is sound rest over settled nobody =
+pub is_idle : (p old : Engine) → p ≡ old → IsSound p → IsIdle p.kernel → is_empty p.kernel.outside ≡ true → is_in (p.kernel.outside.presented + 1) (due p.rules (moment_of p)) ≡ false
+    → (view order p.kernel.tables).over ≡ None → next_delivery (view order p.kernel.tables) ≡ None → chosen (view order p.kernel.tables) ≡ None → EndsHere old old Idle
+is_idle p old is sound rest nothing none_due over settled nobody =
     let same = moment_state p rest in
+    let waiting = nobody_ready (moment_of p).state (ap next_delivery same ∙ settled) (ap chosen same ∙ nobody) in
     let idle : IsIdleRun p.rules (moment_of p) = record {
       going_on = ap (λ (s : State). s.over) same ∙ over;
       settled = ap next_delivery same ∙ settled;
       nobody = ap chosen same ∙ nobody;
-      taken = nothing_left p.rules (moment_of p).taken sound.journal;
+      taken =
+          all_taken p.rules (moment_of p) waiting
+          (nothing_due p.rules (moment_of p) p.kernel.outside sound.whole sound.journal sound.outside nothing none_due);
     } in
     has_ended p old Idle is (inr (inl (refl, idle)))
 
 pub is_spent : (p old : Engine) (t : ℕ) → p ≡ old → IsSound p → Turn p t → p.instructions ≡ p.rules.settings.budget → EndsHere old old Budget
-is_spent p old t is sound turn spent = has_ended p old Budget is (inr (inr (refl, record { used_up = spent; tid = t; turn = turn_of p t sound.journal turn })))
+is_spent p old t is sound turn spent = has_ended p old Budget is (inr (inr (refl, record { used_up = spent; tid = t; turn = turn_of p t sound turn })))
 
 -- a move was begun
 module _ (p q : Engine) (k : KernelState Queue) (from : view order k.tables ≡ view order p.kernel.tables) (move : Move) (g : Outcome) (has : HasBegun order k q.kernel g) (made : g ≡ make p.rules (moment_of p).state move) (allowed : Allowed p.rules (moment_of p) move)
@@ -211,20 +280,34 @@ unfolding nothing_told
 quiet_head t = refl
 
 -- the chosen thread is in place, and its instruction is made or begun
-module _ (p old : Engine) (is : p ≡ old) (t : ℕ) (sound : IsSound p) (turn : Turn p t) (other : p.instructions ≡ p.rules.settings.budget → ⊥) where
+module _ (p old : Engine) (is : p ≡ old) (t : ℕ) (sound : IsSound p) (turn : Turn p t) (less : p.instructions < p.rules.settings.budget) where
   allowed_here : Allowed p.rules (moment_of p) (Instr t)
-  allowed_here = (turn_of p t sound.journal turn, (let within = sound.within in omega (arith, within, other)))
+  allowed_here = (turn_of p t sound turn, less)
 
-  module _ (k l : KernelState Queue) (same : view order k.tables ≡ view order p.kernel.tables) (placed : k.tables.records.placed ≡ t)
-      (last : Option ℕ) (by : last ≡ Some t) where
+  module _ (k l : KernelState Queue) (same : view order k.tables ≡ view order p.kernel.tables) (placed : k.tables.records.placed ≡ t) (others : k ≡ record p.kernel { tables = k.tables })
+      (last : Option ℕ) (by : last ≡ Some t) (rules : Rules) (ruled : rules ≡ p.rules) where
     abbrev at : Stage → Engine
-    at stage = record { kernel = l; instructions = p.instructions + 1; last = last; stage = stage; rules = p.rules }
+    at stage = record { kernel = l; instructions = p.instructions + 1; stop = p.stop; last = last; stage = stage; rules = rules }
+
+    -- what waits outside stays, and nothing waits
+    outside_is : l.outside ≡ k.outside → l.outside ≡ p.kernel.outside
+    outside_is stays = stays ∙ ap (λ (x : KernelState Queue). x.outside) others
+
+    settings_are : l.settings ≡ k.settings → l.settings ≡ p.kernel.settings
+    settings_are stay = stay ∙ ap (λ (x : KernelState Queue). x.settings) others
 
     made_is : instruction (view order k.tables) k.tables.records.placed ≡ instruction (moment_of p).state t
     made_is = λ i. instruction ((same ∙ sym (moment_state p turn.rest)) i) (placed i)
 
-    leads_to : (stage : Stage) → (owed_of (at stage)).state ≡ (instruction (moment_of p).state t).state → moment_of (at stage) ≡ moved p.rules (moment_of p) (Instr t)
-    leads_to stage state = λ i. record { state = state i; instructions = p.instructions + 1; last = by i; taken = nothing_taken }
+    leads_to : (stage : Stage) → l.outside ≡ k.outside → (owed_of (at stage)).state ≡ (instruction (moment_of p).state t).state → moment_of (at stage) ≡ moved p.rules (moment_of p) (Instr t)
+    leads_to stage stays state = λ i. record { state = state i; instructions = p.instructions + 1; last = by i; taken = taken_of (outside_is stays i) }
+
+    moved_prompt : ArePrompt p.rules (moved p.rules (moment_of p) (Instr t)) p.kernel.outside
+    moved_prompt = none_prompt p (moved p.rules (moment_of p) (Instr t)) sound turn.nothing_waits refl
+
+    sound_after : (stage : Stage) → l.outside ≡ k.outside → l.settings ≡ k.settings → Stands order l last stage → moment_of (at stage) ≡ moved p.rules (moment_of p) (Instr t) → IsSound (at stage)
+    sound_after stage stays stay stands leads =
+        sound_moved p (at stage) sound ruled refl (settings_are stay) p.kernel.outside (outside_is stays) refl refl sound.outside stands (Instr t) allowed_here leads moved_prompt
 
     adds : (head : Head) → (instruction (view order k.tables) k.tables.records.placed).report.head ≡ head → IsPlainMain head
         → told_of (counted p.rules (moment_of p) (Instr t)) ≡ added_by p.last last head
@@ -232,7 +315,7 @@ module _ (p old : Engine) (is : p ≡ old) (t : ℕ) (sound : IsSound p) (turn :
 
     module _ (on : HasGoneOn order k l) (stage : Stage) (going : stage ≡ Going) where
       went_to : moment_of (at stage) ≡ moved p.rules (moment_of p) (Instr t)
-      went_to = leads_to stage (moment_state (at stage) on.rest ∙ on.state ∙ ap (λ (g : Outcome). g.state) made_is)
+      went_to = leads_to stage on.outside (moment_state (at stage) on.rest ∙ on.state ∙ ap (λ (g : Outcome). g.state) made_is)
 
       plain : MakesPlain p (at stage)
       plain = record {
@@ -246,34 +329,34 @@ module _ (p old : Engine) (is : p ≡ old) (t : ℕ) (sound : IsSound p) (turn :
         shown = sym (moment_state (at stage) on.rest);
       }
 
-      pub goes_plain : last ≡ p.last → Advances old Plain (record { kernel = l; instructions = p.instructions + 1; last = last; stage = stage; rules = p.rules })
+      pub goes_plain : last ≡ p.last → Advances old Plain (record { kernel = l; instructions = p.instructions + 1; stop = p.stop; last = last; stage = stage; rules = rules })
       goes_plain stays = (subst (λ x. MakesPlain x (at stage)) is plain, stays ∙ ap (λ (x : Engine). x.last) is)
 
-      pub goes_switched : Advances old (Switched p.last) (record { kernel = l; instructions = p.instructions + 1; last = last; stage = stage; rules = p.rules })
+      pub goes_switched : Advances old (Switched p.last) (record { kernel = l; instructions = p.instructions + 1; stop = p.stop; last = last; stage = stage; rules = rules })
       goes_switched = (subst (λ x. MakesPlain x (at stage)) is plain, ap (λ (x : Engine). x.last) is)
 
-      pub plain_sound : IsSound (record { kernel = l; instructions = p.instructions + 1; last = last; stage = stage; rules = p.rules })
+      pub plain_sound : IsSound (record { kernel = l; instructions = p.instructions + 1; stop = p.stop; last = last; stage = stage; rules = rules })
       plain_sound =
           let stands : Stands order l last Going = (on.rest, on.turn, by ∙ ap Some (sym (on.placed ∙ placed))) in
-          sound_moved p (at stage) sound refl (subst (Stands order l last) (sym going) stands) (Instr t) allowed_here went_to
+          sound_after stage on.outside on.settings (subst (Stands order l last) (sym going) stands) went_to
 
     module _ (has : BeginsInstruction order k l (instruction (view order k.tables) k.tables.records.placed)) where
       begun_to : moment_of (at InCall) ≡ moved p.rules (moment_of p) (Instr t)
-      begun_to = leads_to InCall (state_is p (at InCall) k same (Instr t) _ has.0 made_is allowed_here refl)
+      begun_to = leads_to InCall has.0.outside (state_is p (at InCall) k same (Instr t) _ has.0 made_is allowed_here refl)
 
-      pub goes_begun : Advances old (Begun p.last) (record { kernel = l; instructions = p.instructions + 1; last = last; stage = InCall; rules = p.rules })
+      pub goes_begun : Advances old (Begun p.last) (record { kernel = l; instructions = p.instructions + 1; stop = p.stop; last = last; stage = InCall; rules = rules })
       goes_begun =
           (subst (λ x. BeginsMove x (at InCall)) is (begins p (at InCall) k same (Instr t) _ has.0 made_is allowed_here refl begun_to (adds _ refl (record { no_arrival = has.1; no_delivery = has.2 }))), ap (λ (x : Engine). x.last) is)
 
-      pub begun_sound : IsSound (record { kernel = l; instructions = p.instructions + 1; last = last; stage = InCall; rules = p.rules })
-      begun_sound = sound_moved p (at InCall) sound refl has.0.call (Instr t) allowed_here begun_to
+      pub begun_sound : IsSound (record { kernel = l; instructions = p.instructions + 1; stop = p.stop; last = last; stage = InCall; rules = rules })
+      begun_sound = sound_after InCall has.0.outside has.0.settings has.0.call begun_to
 
--- the next delivery is begun
+-- the next delivery is begun, where nothing waits outside
 module _ (p old : Engine) (is : p ≡ old) (d : Delivery) (sound : IsSound p) (rest : IsIdle p.kernel) (untold : p.kernel.tables.report ≡ nothing_told)
-    (over : (view order p.kernel.tables).over ≡ None) (next : next_delivery (view order p.kernel.tables) ≡ Some d)
-    (l : KernelState Queue) (begun : IsBegun order p.kernel l (deliver (view order p.kernel.tables))) where
+    (nothing : is_empty p.kernel.outside ≡ true) (over : (view order p.kernel.tables).over ≡ None) (next : next_delivery (view order p.kernel.tables) ≡ Some d)
+    (l : KernelState Queue) (begun : IsBegun order p.kernel l (deliver (view order p.kernel.tables))) (rules : Rules) (ruled : rules ≡ p.rules) where
   abbrev delivering : Engine
-  delivering = record { kernel = l; instructions = p.instructions; last = p.last; stage = InCall; rules = p.rules }
+  delivering = record { kernel = l; instructions = p.instructions; stop = p.stop; last = p.last; stage = InCall; rules = rules }
 
   here : (moment_of p).state ≡ view order p.kernel.tables
   here = moment_state p rest
@@ -292,12 +375,14 @@ module _ (p old : Engine) (is : p ≡ old) (d : Delivery) (sound : IsSound p) (r
   delivers_to : moment_of delivering ≡ moved p.rules (moment_of p) Deliver
   delivers_to =
       let state = state_is p delivering p.kernel refl Deliver _ has (ap deliver (sym here)) can_deliver refl in
-      λ i. record { state = state i; instructions = p.instructions; last = p.last; taken = nothing_taken }
+      λ i. record { state = state i; instructions = p.instructions; last = p.last; taken = taken_of (begun.outside i) }
 
-  pub delivers : Advances old (Begun p.last) (record { kernel = l; instructions = p.instructions; last = p.last; stage = InCall; rules = p.rules })
+  pub delivers : Advances old (Begun p.last) (record { kernel = l; instructions = p.instructions; stop = p.stop; last = p.last; stage = InCall; rules = rules })
   delivers =
       let counts = delivery_counts p.rules (moment_of p) p.last _ refl main in
       (subst (λ x. BeginsMove x delivering) is (begins p delivering p.kernel refl Deliver _ has (ap deliver (sym here)) can_deliver refl delivers_to counts), ap (λ (x : Engine). x.last) is)
 
-  pub delivers_sound : IsSound (record { kernel = l; instructions = p.instructions; last = p.last; stage = InCall; rules = p.rules })
-  delivers_sound = sound_moved p delivering sound refl has.call Deliver can_deliver delivers_to
+  pub delivers_sound : IsSound (record { kernel = l; instructions = p.instructions; stop = p.stop; last = p.last; stage = InCall; rules = rules })
+  delivers_sound =
+      sound_moved p delivering sound ruled refl begun.settings p.kernel.outside begun.outside refl refl sound.outside has.call Deliver can_deliver delivers_to
+      (none_prompt p (moved p.rules (moment_of p) Deliver) sound nothing refl)

@@ -31,6 +31,7 @@ use Rattle.kernel_state.specs.Kernels.{KernelState, remaining, IsEmpty, IsIdle, 
 use Rattle.kernel_state.specs.declared.kernel.MainLine.{MainLine}
 use Rattle.kernel_state.specs.declared.kernel.MainLine.TheVariants.{OfThread, Arrival}
 use Rattle.kernel_state.specs.declared.tables.Tables.{Tables}
+use Rattle.dispatcher.specs.Arriving.{is_empty}
 use Rattle.process_engine.specs.Engine.{HasTurn}
 use Rattle.process_engine.specs.Advancing.{HasGoneOn, HasBegun, BeginsInstruction}
 use Rattle.posix_model.proofs.PlainLemmas.{plain_instructions_leave}
@@ -61,11 +62,14 @@ module _ {R : Type 0} (order : R → List ℕ) (k q : KernelState R) (idle : IsI
         tells = ap (λ (g : Outcome). g.report) went;
         rest = still_idle;
         turn = record {
+          nothing_waits = ap (λ (x : KernelState R). is_empty x.outside) others ∙ turn.nothing_waits;
           going_on = ap (λ (x : State). x.over) h.3 ∙ turn.going_on;
           settled = ap next_delivery h.3 ∙ (plain_instructions_leave s t h.0 h.1).1 ∙ turn.settled;
           first = ap chosen h.3 ∙ (plain_instructions_leave s t h.0 h.1).0 ∙ turn.first ∙ ap Some (sym placed);
         };
         placed = placed;
+        settings = ap (λ (x : KernelState R). x.settings) others;
+        outside = ap (λ (x : KernelState R). x.outside) others;
       }
 
   -- another leaves the machine, and its move can begin
@@ -158,6 +162,8 @@ has_begun order k q g untold begun main = record {
   few = few_remaining q.rest.noted.items q.rest.next begun.few;
   shown = ap (view order) begun.tables;
   main = main;
+  settings = begun.settings;
+  outside = begun.outside;
 }
 
 pub by_event : (s : State) (t : ℕ) (effect : Effect) → effect_at s t ≡ effect → by_effect s t effect ≡ instruction s t

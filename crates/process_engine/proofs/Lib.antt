@@ -1,8 +1,11 @@
 pub mod ReadableLemmas
+pub mod DueLemmas
 pub mod CountLemmas
 pub mod DeliveryLemmas
 pub mod InstructionLemmas
 pub mod EngineLemmas
+pub mod ArrivalLemmas
 pub mod StepLemmas
 pub mod RunLemmas
 pub mod WholeLemmas
+pub mod SettingLemmas

@@ -105,6 +105,28 @@ module _ (rules : Rules) (p m q : Engine) (on : Makes rules (moment_of p) (momen
       let here = subst (λ s. Ends s (moment_of m) ending) (sym same) h.ends in
       subst (λ x. Makes rules (moment_of p) (moment_of x) no_counts [] × Ends rules (moment_of x) ending × ((position_of x).telling ≡ None)) (sym h.same) (on, here, rest)
 
+-- what goes on after moves without text goes on from before them
+module _ (rules : Rules) (p m q : Engine) (on : Makes rules (moment_of p) (moment_of m) no_counts []) where
+  some_after : (told : Counts) (trace : List ℕ) → MakesSome rules (moment_of m) (moment_of q) told trace → MakesSome rules (moment_of p) (moment_of q) told trace
+  unfolding makes_as makes_then
+  some_after told trace h =
+      let some = h.some in
+      record {
+        makes = makes_as _ _ _ _ (makes_then rules (moment_of p) (moment_of m) (moment_of q) no_counts told [] trace on h.makes) (sym (none_plus told)) refl;
+        some = rw length-append (omega (arith, some));
+      }
+
+  pub proceeds_after : (advance : Advance) → Proceeds rules m advance q → Proceeds rules p advance q
+  proceeds_after Plain h = h
+  proceeds_after (Switched before) h = (some_after _ _ h.0, h.1)
+  proceeds_after (Begun before) h = (some_after _ _ h.0, h.1)
+  proceeds_after (End ending) h =
+      (makes_as _ _ _ _ (makes_then rules (moment_of p) (moment_of m) (moment_of q) no_counts no_counts [] [] on h.0) (sym (none_plus no_counts)) refl, h.1, h.2)
+
+-- the same run, by no move
+pub makes_same : (rules : Rules) (old new : Moment) → new ≡ old → Makes rules old new no_counts []
+makes_same rules old new same = subst (λ n. Makes rules old n no_counts []) (sym same) (makes_none rules old)
+
 -- a move whose small changes are all made tells the same
 pub finished : (s t : Rules) (old mid new : Engine) (before : Option ℕ) (report : Report) → s ≡ t → Proceeds s old (Begun before) mid → Completes (position_of mid) report (position_of new)
     → MakesTold t (moment_of old) before report (moment_of new)

@@ -27,6 +27,8 @@ pub record HasGoneOn {R : Type 0} (order : R → List ℕ) (k q : KernelState R)
   pub rest : IsIdle q
   pub turn : HasTurn order q
   pub placed : q.tables.records.placed ≡ k.tables.records.placed
+  pub settings : q.settings ≡ k.settings
+  pub outside : q.outside ≡ k.outside
 
 -- a move was begun that has a main line: it owes the machine this outcome, in 512 small changes at most, and the
 -- tables show what they showed
@@ -37,6 +39,8 @@ pub record HasBegun {R : Type 0} (order : R → List ℕ) (k q : KernelState R) 
   pub few : length (remaining q.rest) ≤ 512
   pub shown : view order q.tables ≡ view order k.tables
   pub main : g.report.head ≡ Quiet → ⊥
+  pub settings : q.settings ≡ k.settings
+  pub outside : q.outside ≡ k.outside
 
 -- the same of an instruction: its main line is that of no arrival and of no delivery
 abbrev pub BeginsInstruction : {R : Type 0} → (R → List ℕ) → KernelState R → KernelState R → Outcome → Type 0

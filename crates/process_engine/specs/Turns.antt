@@ -1,5 +1,6 @@
 -- What a turn and a whole run of a process do.
 use Rattle.std.specs.Prelude.{ℕ, ◌≡◌, ◌≤◌, ◌+◌, ◌⊎◌, List, [], Option, Some, None, Result, Ok, Err}
+use Rattle.kernel_state.specs.Outside.{present}
 use Rattle.replay_io.specs.Writing.{WritesWhole, WritesFront}
 use Rattle.trace_text.specs.Output.{IsReadable}
 use Rattle.posix_model.specs.Runs.{Rules, Moment, Allowed, Ends, make, moved}
@@ -11,7 +12,7 @@ use Rattle.posix_model.specs.declared.Head.TheVariants.{Quiet as QuietHead}
 use Rattle.posix_model.specs.declared.Report.{Report}
 use Rattle.trace_text.specs.Counting.{counts}
 use Rattle.kernel_state.specs.Small.{IsSmall}
-use Rattle.process_engine.specs.Engine.{Position}
+use Rattle.process_engine.specs.Engine.{Engine, Position, position_of}
 use Rattle.process_engine.specs.declared.Turn.{Turn}
 use Rattle.process_engine.specs.declared.Turn.TheVariants.{Quiet, Made as MadeTurn, Ended}
 use Rattle.process_engine.specs.declared.Done.{Done}
@@ -40,6 +41,11 @@ pub record Leaves (old new : Position) : Type 0 where
   pub one : old.remaining ≡ new.remaining + 1
   pub more : 1 ≤ new.remaining
   pub small : IsSmall old.shown new.shown
+
+-- the next entry was presented after the instructions made, and nothing else has changed
+pub record Presents (p q : Engine) : Type 0 where
+  pub kernel : q.kernel ≡ record p.kernel { outside = present p.kernel.outside (p.kernel.outside.presented + 1) (record { n = p.instructions; k = 0 }) }
+  pub position : position_of q ≡ position_of p
 
 -- all that is left of the move in progress is made, and the move is told: the run stays
 pub record Completes (old : Position) (report : Report) (new : Position) : Type 0 where

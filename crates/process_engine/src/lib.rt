@@ -1,6 +1,8 @@
 //! A process and its turns: it makes the moves of a run one by one, and writes their text.
 #![tactic(auto)]
 
+#[cfg(test)]
+mod delivery_tests;
 mod moves;
 mod process;
 mod stage;

@@ -1,4 +1,4 @@
-ghost use Rattle.std.specs.Prelude.{◌≡◌, ◌<◌, ◌≤◌, ◌++◌, ℕ, IfOk, None, replicate};
+ghost use Rattle.std.specs.Prelude.{◌≡◌, ◌<◌, ◌≤◌, ◌&&◌, ◌++◌, ℕ, true, false, IfOk, None, length};
 ghost use Rattle.posix_model.specs.Start.{start};
 ghost use Rattle.posix_model.specs.Trace.{switch_line};
 ghost use Rattle.posix_model.specs.Lines.{lines};
@@ -6,8 +6,10 @@ ghost use Rattle.posix_model.specs.Deliveries.{next_delivery};
 ghost use Rattle.posix_model.specs.Scheduling.{chosen};
 ghost use Rattle.replay_io.specs.Writing.{Writes};
 ghost use Rattle.trace_text.specs.Output.{IsReadable};
-ghost use Rattle.process_engine.specs.Engine.{Engine, IsSound, rules_of, position_of, moment_of, order};
-ghost use Rattle.process_engine.specs.Turns.{Completes, IsTurn, Goes, Runs};
+ghost use Rattle.posix_model.specs.Runs.{is_waiting};
+ghost use Rattle.dispatcher.specs.Arriving.{is_empty, AreSignals};
+ghost use Rattle.process_engine.specs.Engine.{Engine, IsSound, rules_of, next_place, stop_of, is_due, position_of, moment_of, order};
+ghost use Rattle.process_engine.specs.Turns.{Presents, Completes, IsTurn, Goes, Runs};
 ghost use Rattle.process_engine.specs.Advancing.{Advances, Proceeds};
 ghost use Rattle.kernel_state.specs.View.{view};
 
@@ -15,16 +17,17 @@ use crate::moves::make_instruction;
 use crate::stage::{Advance, Stage};
 use crate::told::{is_thread, with_move};
 use crate::{Done, Turn, WriteFault};
-use dispatcher::begin_delivery;
+use dispatcher::begin_next;
 use elf_image::EntryPoint;
+use journal_text::Journal;
 use kernel_state::{Kernel, Stepped, Tables};
 use posix_model::{Ending, Head, Report, Settings};
-use ready_queues::BitmapReady;
+use ready_queues::{BitmapReady, Ready};
 use replay_io::{Sink, SinkFailed};
 use rv_exec::Memory;
 use std::alloc::Global;
 use std::marker::Model;
-use thread_base::{NoMemory, Tid};
+use thread_base::{NoMemory, Place, Tid};
 use trace_text::{Counts, Mode, put_end, put_report, put_run};
 
 /// A process: its kernel, and what its run has come to. Clauses see its position: the run so far with the move in
@@ -34,6 +37,7 @@ use trace_text::{Counts, Mode, put_end, put_report, put_run};
 pub struct Process {
     kernel: Kernel<BitmapReady>,
     instructions: u64,
+    stop: u64,
     last: Option<Tid>,
     stage: Stage,
     settings: Settings,
@@ -44,29 +48,38 @@ impl Model for Process {
 
     ghost Value = { Engine };
 
-    ghost view = { λ p. record { kernel = p.kernel; instructions = p.instructions; last = p.last; stage = p.stage; rules = rules_of p.settings } };
+    ghost view = { λ p. record { kernel = p.kernel; instructions = p.instructions; stop = p.stop; last = p.last; stage = p.stage; rules = rules_of p.settings p.kernel.outside.journal } };
 
-    ghost invariant = { λ p. IsSound (record { kernel = p.kernel; instructions = p.instructions; last = p.last; stage = p.stage; rules = rules_of p.settings }) };
+    ghost invariant = { λ p. IsSound (record { kernel = p.kernel; instructions = p.instructions; stop = p.stop; last = p.last; stage = p.stage; rules = rules_of p.settings p.kernel.outside.journal }) };
 }
 
 impl Process {
-    /// A process at the start of its run: thread 1 stands at the entry, and the rest is as the machine's
-    /// start says. The budget is at most 1,000,000,000, the quantum from 1 to 1,000. NoMemory is free.
+    /// A process at the start of its run under a journal: thread 1 stands at the entry, the rest is as the machine's
+    /// start says, and nothing is presented. The budget is at most 1,000,000,000, the quantum from 1 to 1,000. NoMemory
+    /// is free.
     pub fn new(
         alloc: Global,
         mem: Memory,
         entry: EntryPoint,
+        journal: Journal,
         settings: Settings,
     ) -> Result<Process, NoMemory>
         requires budget { settings.budget ≤ 1000000000 }
         requires quantum { (1 ≤ settings.quantum) × (settings.quantum ≤ 1000) }
+        requires signals { AreSignals journal.entries }
         ensures start { IfOk result (λ p. moment_of p ≡ start mem entry.0) }
         ensures at_rest { IfOk result (λ p. (position_of p).telling ≡ None) }
-        ensures rules { IfOk result (λ p. p.rules ≡ rules_of settings) }
+        ensures rules { IfOk result (λ p. p.rules ≡ rules_of settings journal) }
     {
+        let _journal = journal.len();
+        let ready = BitmapReady::new(alloc)?;
+        let mut kernel = Kernel::new(alloc, ready, mem, entry, settings)?;
+        kernel.attach(alloc, journal)?;
+        let stop = stop_before(settings.budget, next_place(&kernel));
         Ok(Process {
-            kernel: Kernel::new(alloc, BitmapReady::new(alloc)?, mem, entry, settings)?,
+            kernel,
             instructions: 0,
+            stop,
             last: None,
             stage: Stage::Paused,
             settings,
@@ -80,16 +93,54 @@ impl Process {
         let _instructions = &self.instructions;
     }
 
+    /// Whether the next entry that was not presented is due: its place is reached, or nothing else can happen. While a
+    /// move is in progress none is looked for.
+    pub fn due(&self) -> bool
+        ensures { result ≡ is_due self.now }
+    {
+        match self.stage {
+            Stage::InCall => false,
+            Stage::Going | Stage::Paused => match next_place(&self.kernel) {
+                None => false,
+                Some(n) => n <= self.instructions || is_waiting(&self.kernel),
+            },
+        }
+    }
+
+    /// Presents the next entry, which is due, after the instructions made: the run stays.
+    pub fn present(&mut self)
+        requires { is_due self.old ≡ true }
+        ensures presents { Presents self.old self.new }
+        ensures rules { self.new.rules ≡ self.old.rules }
+        ensures paused { self.new.stage ≡ Stage.Paused }
+    {
+        let number = self.kernel.outside().presented() + 1;
+        let n = self.instructions;
+        self.kernel.present(number, Place { n, k: 0 });
+        self.stop = stop_before(self.settings.budget, next_place(&self.kernel));
+        self.stage = Stage::Paused;
+    }
+
+    /// Presents all entries that are due, in their order: the run stays.
+    pub(crate) fn present_due(&mut self)
+        ensures same { position_of self.new ≡ position_of self.old }
+        ensures none { is_due self.new ≡ false }
+        ensures rules { self.new.rules ≡ self.old.rules }
+        ensures paused { self.old.stage ≡ Stage.Paused → self.new.stage ≡ Stage.Paused }
+    {
+        while self.due() {
+            self.present();
+        }
+    }
+
     /// Makes the instruction of the thread in place, which has its turn, or begins its move.
     #[inline(always)]
     fn instruction(&mut self) -> Advance
-        requires { self.old.stage ≡ Stage.Going }
+        requires going { self.old.stage ≡ Stage.Going }
+        requires before { self.old.instructions < self.old.stop }
         ensures advances { Advances self.old result self.new }
         ensures rules { self.new.rules ≡ self.old.rules }
     {
-        if self.instructions == self.settings.budget {
-            return Advance::End(Ending::Budget);
-        }
         self.instructions += 1;
         if make_instruction(&mut self.kernel) {
             return Advance::Plain;
@@ -101,6 +152,8 @@ impl Process {
     /// Makes the first instruction of a thread's turn, which is the chosen one, or begins its move.
     fn switch_to(&mut self, t: Tid) -> Advance
         requires rest { self.old.stage ≡ Stage.Paused }
+        requires none_due { is_due self.old ≡ false }
+        requires nothing_waits { is_empty self.old.kernel.outside ≡ true }
         requires settled { next_delivery (view order self.old.kernel.tables) ≡ None }
         requires going_on { (view order self.old.kernel.tables).over ≡ None }
         requires chosen { chosen (view order self.old.kernel.tables) ≡ Some t }
@@ -123,10 +176,11 @@ impl Process {
         Advance::Begun(before)
     }
 
-    /// Sees how the run goes on: it is over, a signal is delivered, nobody can go on, or the chosen
-    /// thread has its turn.
+    /// Sees how the run goes on where no entry is due that was not presented: it is over, what was presented arrives, a
+    /// signal is delivered, nobody can go on, or the chosen thread has its turn.
     fn resume(&mut self) -> Advance
-        requires { self.old.stage ≡ Stage.Paused }
+        requires rest { self.old.stage ≡ Stage.Paused }
+        requires none_due { is_due self.old ≡ false }
         ensures advances { Advances self.old result self.new }
         ensures switched { result ≡ Advance.Plain → ⊥ }
         ensures rules { self.new.rules ≡ self.old.rules }
@@ -135,14 +189,9 @@ impl Process {
             Some(ending) => return Advance::End(ending),
             None => {}
         }
-        match self.kernel.tables().next_delivery() {
-            Some(next) => {
-                let (t, s, of_process) = next;
-                begin_delivery(&mut self.kernel, t, s, of_process);
-                self.stage = Stage::InCall;
-                return Advance::Begun(self.last);
-            }
-            None => {}
+        if begin_next(&mut self.kernel) {
+            self.stage = Stage::InCall;
+            return Advance::Begun(self.last);
         }
         match self.kernel.chosen() {
             Some(t) => self.switch_to(t),
@@ -150,21 +199,29 @@ impl Process {
         }
     }
 
-    /// Goes on by one move: a plain instruction is made, and another move begun.
+    /// Goes on by one move, where no entry is due that was not presented: a plain instruction is made, and another move
+    /// begun.
     #[inline(always)]
     fn advance(&mut self) -> Advance
-        requires { (position_of self.old).telling ≡ None }
+        requires rest { (position_of self.old).telling ≡ None }
+        requires none_due { is_due self.old ≡ false }
         ensures advances { Advances self.old result self.new }
         ensures rules { self.new.rules ≡ self.old.rules }
     {
         match self.stage {
-            Stage::Going => self.instruction(),
+            Stage::Going => {
+                if self.instructions < self.stop {
+                    return self.instruction();
+                }
+                Advance::End(Ending::Budget)
+            }
             Stage::Paused => self.resume(),
             Stage::InCall => unreachable!(),
         }
     }
 
-    /// Makes plain instructions of the thread in place, up to its first other move or the end of the run.
+    /// Makes plain instructions of the thread in place, up to its first other move or where it has to be looked whether an
+    /// entry is due, and goes on there.
     #[inline(always)]
     fn run_turn(&mut self) -> Advance
         requires { self.old.stage ≡ Stage.Going }
@@ -172,12 +229,34 @@ impl Process {
         ensures rules { self.new.rules ≡ self.old.rules }
     {
         self.sound();
-        loop {
+        while self.instructions < self.stop {
             match self.instruction() {
                 Advance::Plain => {}
                 advance => return advance,
             }
         }
+        self.pause();
+        self.go_on()
+    }
+
+    /// The thread in place has its turn no longer as a matter of course.
+    fn pause(&mut self)
+        requires { self.old.stage ≡ Stage.Going }
+        ensures paused { self.new.stage ≡ Stage.Paused }
+        ensures same { moment_of self.new ≡ moment_of self.old }
+        ensures rules { self.new.rules ≡ self.old.rules }
+    {
+        self.stage = Stage::Paused;
+    }
+
+    /// Presents what is due, and goes on from there.
+    fn go_on(&mut self) -> Advance
+        requires { self.old.stage ≡ Stage.Paused }
+        ensures proceeds { Proceeds self.old.rules self.old result self.new }
+        ensures rules { self.new.rules ≡ self.old.rules }
+    {
+        self.present_due();
+        self.resume()
     }
 
     /// Goes on to the next move that may write text, or to the end of the run.
@@ -189,7 +268,7 @@ impl Process {
     {
         match self.stage {
             Stage::Going => self.run_turn(),
-            Stage::Paused => self.resume(),
+            Stage::Paused => self.go_on(),
             Stage::InCall => unreachable!(),
         }
     }
@@ -210,9 +289,10 @@ impl Process {
     }
 
     /// Makes one plain instruction, begins one move, makes one small change of the move in progress, or tells the
-    /// ending. Made comes exactly with the last change of a move, with its report; Ended comes exactly where the run has ended; Quiet
-    /// exactly where the turn completed no move with lines and told no ending.
+    /// ending, where no entry is due. Made comes exactly with the last change of a move, with its report; Ended exactly
+    /// where the run has ended; Quiet exactly where the turn completed no move with lines and told no ending.
     pub fn turn(&mut self) -> Turn
+        requires { is_due self.old ≡ false }
         ensures turn { IsTurn self.old.rules (position_of self.old) result (position_of self.new) }
         ensures rules { self.new.rules ≡ self.old.rules }
     {
@@ -326,4 +406,33 @@ impl Process {
             Err(SinkFailed) => Err(WriteFault),
         }
     }
+}
+
+/// After how many instructions the next entry is reached that was not presented; None exactly where there is none.
+fn next_place<R: Ready + Drop>(k: &Kernel<R>) -> Option<u64>
+    ensures { result ≡ next_place k.now.outside.journal k.now.outside.presented }
+{
+    let outside = k.outside();
+    let presented = outside.presented();
+    if presented == outside.len() {
+        return None;
+    }
+    Some(outside.entry(presented + 1).place.n)
+}
+
+/// After how many instructions it has to be looked whether an entry is due: those of the budget, or fewer.
+fn stop_before(budget: u64, next: Option<u64>) -> u64
+    ensures { result ≡ stop_of budget next }
+{
+    match next {
+        None => budget,
+        Some(n) => n.min(budget),
+    }
+}
+
+/// Whether nothing can happen but by an entry that was not presented.
+fn is_waiting<R: Ready + Drop>(k: &Kernel<R>) -> bool
+    ensures { result ≡ (is_waiting (view R.order k.now.tables) && is_empty k.now.outside) }
+{
+    k.chosen().is_none() && k.tables().next_delivery().is_none() && k.outside().is_empty()
 }

@@ -21,6 +21,7 @@ impl Process {
     {
         self.sound();
         loop {
+            self.present_due();
             match self.turn() {
                 Turn::Quiet => {}
                 Turn::Made(_) => {}

@@ -2,6 +2,7 @@ use Rattle.std.proofs.Common.{◌∙◌, ap, sym, subst}
 use Rattle.posix_model.specs.Instructions.{instruction}
 use Rattle.kernel_state.specs.Executing.{HasExecuted}
 use Rattle.kernel_state.specs.Begun.{CanBegin}
+use Rattle.kernel_state.specs.Kernels.{KernelState}
 use Rattle.kernel_state.specs.View.{view}
 use Rattle.kernel_state.specs.declared.tables.Tables.{Tables}
 use Rattle.kernel_state.proofs.KernelLemmas.{rests}
@@ -46,4 +47,13 @@ returns-in_default g c =
     let same = stays (view order k.tables) (view order l.tables) k.tables.records.placed c.execute.result after.executed c.in_default.not-Next in
     let begun = subst (BeginsInstruction order l q) (λ i. instruction (same i) (here i)) c.begin_move.ensures in
     let has = begun.0 in
-    (record { owed = has.owed; call = has.call; some = has.some; few = has.few; shown = has.shown ∙ same; main = has.main }, begun.1, begun.2)
+    (record {
+      owed = has.owed;
+      call = has.call;
+      some = has.some;
+      few = has.few;
+      shown = has.shown ∙ same;
+      main = has.main;
+      settings = has.settings ∙ ap (λ (x : KernelState _). x.settings) after.others;
+      outside = has.outside ∙ ap (λ (x : KernelState _). x.outside) after.others;
+    }, begun.1, begun.2)

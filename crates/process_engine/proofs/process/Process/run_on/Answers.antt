@@ -7,16 +7,15 @@ use Rattle.process_engine.specs.Engine.{Engine, moment_of, owed_of, telling_of}
 use Rattle.process_engine.specs.Advancing.{Proceeds}
 use Rattle.process_engine.specs.declared.stage.Advance.TheVariants.{Switched, End}
 use Rattle.process_engine.proofs.RunLemmas.{stays_good, more_so_far, more_fails, made_grows, ended_whole, ended_fails, runs_err, finished, falls, tally_few}
-use Rattle.process_engine.proofs.EngineLemmas.{is_journal}
 use Rattle.process_engine.proofs.process.Process.run_on.Goals as goal
 
 pub with_move-told-requires : goal.with_move-told-requires
 with_move-told-requires g c =
-    tally_few c.args.self.now.rules (moment_of c.args.self.now) (moment_of c.loop-before.self) c.loop-before.told _ _ _ _ (is_journal c.args.self.now.rules c.sound.ensures.journal) c.sound.ensures.good c.sound.ensures.limit c.loop-before.invariant.3
+    tally_few c.args.self.now.rules (moment_of c.args.self.now) (moment_of c.loop-before.self) c.loop-before.told _ _ _ _ c.sound.ensures.whole c.sound.ensures.good c.sound.ensures.limit c.loop-before.invariant.3
 
 pub with_move-told-requires-in-Begun : goal.with_move-told-requires-in-Begun
 with_move-told-requires-in-Begun g c =
-    tally_few c.args.self.now.rules (moment_of c.args.self.now) (moment_of c.loop-before.self) c.loop-before.told _ _ _ _ (is_journal c.args.self.now.rules c.sound.ensures.journal) c.sound.ensures.good c.sound.ensures.limit c.loop-before.invariant.3
+    tally_few c.args.self.now.rules (moment_of c.args.self.now) (moment_of c.loop-before.self) c.loop-before.told _ _ _ _ c.sound.ensures.whole c.sound.ensures.good c.sound.ensures.limit c.loop-before.invariant.3
 
 pub loop-before-smaller-in-Continue-1 : goal.loop-before-smaller-in-Continue-1
 loop-before-smaller-in-Continue-1 g c =
@@ -24,7 +23,7 @@ loop-before-smaller-in-Continue-1 g c =
     let old : Engine = c.loop-before.self in
     let new : Engine = c.proceed.new.self in
     let on = subst (λ s. Proceeds s old (Switched c.in-Switched.before) new) c.loop-before.invariant.0 c.in-Switched.ensures.proceeds in
-    falls rules (moment_of old) (moment_of new) _ _ (is_journal rules c.sound.ensures.journal) (stays_good rules _ _ _ _ c.sound.ensures.good c.loop-before.invariant.3.makes) on.0
+    falls rules (moment_of old) (moment_of new) _ _ c.sound.ensures.whole (stays_good rules _ _ _ _ c.sound.ensures.good c.loop-before.invariant.3.makes) on.0
 
 pub loop-before-smaller : goal.loop-before-smaller
 loop-before-smaller g c =
@@ -32,7 +31,7 @@ loop-before-smaller g c =
     let old : Engine = c.loop-before.self in
     let new : Engine = c.finish-report.new.self in
     let made = finished old.rules rules old c.proceed.new.self new c.in-Begun.before c.finish-report.result c.loop-before.invariant.0 c.in-Begun.ensures.proceeds c.finish-report.ensures.completes in
-    falls rules (moment_of old) (moment_of new) _ _ (is_journal rules c.sound.ensures.journal) (stays_good rules _ _ _ _ c.sound.ensures.good c.loop-before.invariant.3.makes) made
+    falls rules (moment_of old) (moment_of new) _ _ c.sound.ensures.whole (stays_good rules _ _ _ _ c.sound.ensures.good c.loop-before.invariant.3.makes) made
 
 pub loop-before-preserved-in-Continue-1 : goal.loop-before-preserved-in-Continue-1
 loop-before-preserved-in-Continue-1 g c =

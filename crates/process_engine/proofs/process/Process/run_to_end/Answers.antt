@@ -3,7 +3,6 @@ use Rattle.process_engine.specs.Engine.{Engine, moment_of, position_of}
 use Rattle.process_engine.specs.Turns.{IsTurn}
 use Rattle.process_engine.specs.declared.Turn.TheVariants.{Quiet, Made, Ended}
 use Rattle.process_engine.proofs.WholeLemmas.{none_run, good_run, quiet_run, made_run, ended_run, quiet_falls, made_falls}
-use Rattle.process_engine.proofs.EngineLemmas.{is_journal}
 use Rattle.process_engine.proofs.process.Process.run_to_end.Goals as goal
 
 pub loop-ending-init : goal.loop-ending-init
@@ -14,7 +13,7 @@ loop-ending-smaller-in-Quiet c =
     let old : Engine = c.loop-ending.self in
     let new : Engine = c.turn.new.self in
     let turn = subst (λ s. IsTurn s (position_of old) Quiet (position_of new)) c.loop-ending.invariant.0 c.in-Quiet.ensures.turn in
-    quiet_falls c.args.self.now.rules (position_of old) (position_of new) (is_journal c.args.self.now.rules c.sound.ensures.journal)
+    quiet_falls c.args.self.now.rules (position_of old) (position_of new) c.sound.ensures.whole
     (good_run c.args.self.now.rules (moment_of c.args.self.now) (moment_of old) c.sound.ensures.good c.loop-ending.invariant.1) turn
 
 pub loop-ending-preserved-in-Quiet : goal.loop-ending-preserved-in-Quiet

@@ -1,7 +1,6 @@
 use Rattle.std.proofs.Common.{◌∙◌, ap, sym}
 use Rattle.process_engine.specs.Engine.{owed_of, telling_of}
 use Rattle.process_engine.proofs.RunLemmas.{plain_too, plain_falls, stays_good, proceeds}
-use Rattle.process_engine.proofs.EngineLemmas.{is_journal}
 use Rattle.process_engine.proofs.process.Process.run_turn.Goals as goal
 
 pub loop-advance-preserved : goal.loop-advance-preserved
@@ -23,4 +22,4 @@ pub loop-advance-smaller : goal.loop-advance-smaller
 loop-advance-smaller c =
     let rules = c.args.self.now.rules in
     let now = c.loop-advance.invariant in
-    plain_falls rules c.loop-advance.self c.instruction.new.self (is_journal rules c.sound.ensures.journal) (stays_good rules _ _ _ _ c.sound.ensures.good now.2) (sym now.0) c.in-Plain.ensures.advances.0
+    plain_falls rules c.loop-advance.self c.instruction.new.self c.sound.ensures.whole (stays_good rules _ _ _ _ c.sound.ensures.good now.2) (sym now.0) c.in-Plain.ensures.advances.0

@@ -2,8 +2,8 @@ use Rattle.std.specs.Result.{IfOk}
 use Rattle.std.specs.declared.result.Result.{Result}
 use Rattle.std.specs.declared.result.Result.TheVariants.{Ok, Err}
 use Rattle.kernel_state.specs.View.{view}
-use Rattle.dispatcher.proofs.SettingLemmas.{start_none}
-use Rattle.dispatcher.proofs.delivery_tests.start.Goals as goal
+use Rattle.process_engine.proofs.SettingLemmas.{start_none}
+use Rattle.process_engine.proofs.delivery_tests.start.Goals as goal
 
 each_ok : {T E : Type 0} (P Q : T → Type 0) (r : Result T E) → ((x : T) → P x → Q x) → IfOk r P → IfOk r Q
 each_ok P Q (Ok x) each h = each x h

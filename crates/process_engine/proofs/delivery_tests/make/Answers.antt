@@ -1,6 +1,6 @@
 use Rattle.kernel_state.specs.Begun.{arguments_of}
-use Rattle.dispatcher.proofs.SettingLemmas.{made_most}
-use Rattle.dispatcher.proofs.delivery_tests.make.Goals as goal
+use Rattle.process_engine.proofs.SettingLemmas.{made_most}
+use Rattle.process_engine.proofs.delivery_tests.make.Goals as goal
 
 pub returns-in-Some-new-clause-most : goal.returns-in-Some-new-clause-most
 returns-in-Some-new-clause-most g c =

@@ -2,8 +2,8 @@ use Rattle.posix_model.specs.Changes.{begun, await}
 use Rattle.kernel_state.specs.View.{view}
 use Rattle.kernel_state.proofs.KernelLemmas.{can_note}
 use Rattle.kernel_state.proofs.NoteLemmas.{can_start}
-use Rattle.dispatcher.proofs.SettingLemmas.{good_await, await_most}
-use Rattle.dispatcher.proofs.delivery_tests.wait_for.Goals as goal
+use Rattle.process_engine.proofs.SettingLemmas.{good_await, await_most}
+use Rattle.process_engine.proofs.delivery_tests.wait_for.Goals as goal
 
 pub note_one-requires-clause-ready : goal.note_one-requires-clause-ready
 note_one-requires-clause-ready g c =

@@ -9,7 +9,7 @@ ghost use Rattle.kernel_state.specs.View.{view};
 ghost use Rattle.kernel_state.specs.Begun.{CanBegin, IsBegun, arguments_of};
 ghost use Rattle.kernel_state.specs.Kernels.{IsIdle};
 
-use crate::begin_delivery;
+use dispatcher::begin_delivery;
 use elf_image::EntryPoint;
 use kernel_state::{Change, Kernel, ThreadChange};
 use posix_model::{Head, Settings, Wait};
