@@ -1,5 +1,5 @@
 -- What was presented arrives, and an entry more is presented.
-use Rattle.std.proofs.Common.{◌≡◌, ◌∙◌, ap, sym, refl, subst, arith, inl, inr, ℕ, ◌+◌, ◌-◌, ◌≤◌, Bool, true, false, length, Option, Some, None}
+use Rattle.std.proofs.Common.{◌≡◌, ◌∙◌, ap, sym, refl, subst, arith, inl, inr, ℕ, ◌+◌, ◌-◌, ◌≤◌, Bool, true, false, List, length, take, Option, Some, None}
 use Rattle.std.specs.Prelude.{◌||◌, not, is_some, slice_get, slice_set}
 use Rattle.std.proofs.lemmas.Bool.{cases_Bool, cases_eq}
 use Rattle.thread_base.specs.Orders.{is_in}
@@ -13,29 +13,33 @@ use Rattle.unix_process.specs.declared.Taken.{Taken}
 use Rattle.ready_queues.specs.Queue.{Queue}
 use Rattle.posix_model.specs.State.{State}
 use Rattle.posix_model.specs.Changes.{Outcome}
-use Rattle.posix_model.specs.Journals.{Kind, kind_of, entry_at, left_of_kind, untaken}
+use Rattle.posix_model.specs.Journals.{Kind, kind_of, nothing_taken, numbers_from, entry_at, left_of_kind, untaken}
 use Rattle.posix_model.specs.Good.{IsGood}
 use Rattle.posix_model.specs.Laws.{IsBounded}
 use Rattle.posix_model.specs.Reports.{nothing_told}
 use Rattle.posix_model.specs.Runs.{Rules, Moment, MayArrive, arrived, make, moved, due}
+use Rattle.posix_model.specs.Start.{start, start_state}
+use Rattle.posix_model.specs.declared.Settings.{Settings}
 use Rattle.posix_model.specs.declared.Head.{Head}
 use Rattle.posix_model.specs.declared.Head.TheVariants.{Quiet, ArriveSig}
 use Rattle.posix_model.specs.declared.Move.TheVariants.{Arrive}
+use Rattle.posix_model.proofs.GoodMoves.{goodness}
+use Rattle.posix_model.proofs.PendingMoves.{bounded_start}
 use Rattle.posix_model.proofs.JournalLemmas.{in_untaken, untaken_from, place_in}
 use Rattle.trace_text.specs.Counting.{is_arrival}
 use Rattle.posix_model.specs.Deliveries.{Delivery, next_delivery, deliver}
 use Rattle.kernel_state.specs.View.{view}
 use Rattle.kernel_state.specs.Begun.{IsBegun}
 use Rattle.kernel_state.specs.Kernels.{KernelState, IsEmpty, IsIdle, remaining}
-use Rattle.kernel_state.specs.Outside.{OutsideState, gather, drain, present}
-use Rattle.kernel_state.specs.Presented.{KeepsStanding, Stands as StandsOutside, taken_of}
+use Rattle.kernel_state.specs.Outside.{OutsideState, attached, gather, drain, present}
+use Rattle.kernel_state.specs.Presented.{KeepsStanding, Stands as StandsOutside, taken_of, IsSound as IsSoundOutside}
 use Rattle.kernel_state.proofs.NumberLemmas.{get_in}
 use Rattle.kernel_state.proofs.PresentedLemmas.{stands_gathered}
 use Rattle.kernel_state.proofs.ArrivalLemmas.{drained_of_entry}
 use Rattle.kernel_state.proofs.LawLemmas.{drained_may_arrive}
 use Rattle.kernel_state.proofs.SoundLemmas.{taken_is, taken_kept}
 use Rattle.dispatcher.specs.Arriving.{is_empty, AreSignals, BeginsArrival, rules_of as rules_at}
-use Rattle.process_engine.specs.Engine.{Engine, order, owed_of, moment_of, position_of, next_place, stop_of, ArePrompt, Stands, IsSound}
+use Rattle.process_engine.specs.Engine.{Engine, order, owed_of, moment_of, position_of, rules_of, next_place, stop_of, ArePrompt, Stands, IsSound}
 use Rattle.process_engine.specs.Turns.{Presents}
 use Rattle.process_engine.specs.Advancing.{HasBegun, BeginsMove, Advances}
 use Rattle.process_engine.specs.declared.stage.Advance.TheVariants.{Begun}
@@ -212,6 +216,12 @@ some_next : (o : Option Delivery) → is_some o ≡ true → (d : Delivery) × (
 some_next None h = let e : false ≡ true = h in absurd (cc)
 some_next (Some d) h = (d, refl)
 
+-- where none was, nothing waits and no delivery is next
+pub none_next : (nothing : Bool) (o : Option Delivery) → false ≡ (not nothing || is_some o) → (nothing ≡ true) × (o ≡ None)
+none_next true None h = (refl, refl)
+none_next true (Some d) h = absurd (let e : false ≡ true = h in cc)
+none_next false o h = absurd (let e : false ≡ true = h in cc)
+
 module _ (p old : Engine) (is : p ≡ old) (sound : IsSound p) (rest : IsIdle p.kernel) (untold : p.kernel.tables.report ≡ nothing_told) (over : (view order p.kernel.tables).over ≡ None)
     (l : KernelState Queue) (arrival : is_empty p.kernel.outside ≡ false → BeginsArrival order p.kernel l)
     (delivery : is_empty p.kernel.outside ≡ true → IsBegun order p.kernel l (deliver (view order p.kernel.tables)))
@@ -240,3 +250,64 @@ module _ (p old : Engine) (is : p ≡ old) (sound : IsSound p) (rest : IsIdle p.
           | inl nothing ↦ (let d = next_one nothing in delivers_sound p old is d.0 sound rest untold nothing over d.1 l (delivery nothing) rules ruled)
           | inr some ↦ arrives_sound p old is sound rest untold over l (arrival some) rules ruled
         ]
+
+-- ---- at the start nothing was presented
+
+none_taken : (o : OutsideState) → o.presented ≡ 0 → taken_of o ≡ nothing_taken
+none_taken o none = λ i kind. at kind i
+  where
+    at : (kind : Kind) → taken_of o kind ≡ 0
+    at kind =
+        let front : length (numbers_from kind 1 (take o.presented o.journal.entries)) ≡ 0 = ap (λ n. length (numbers_from kind 1 (take n o.journal.entries))) none in
+        omega (arith, front)
+
+module _ (k : KernelState Queue) (journal : Contents) (settings : Settings) (memory : List ℕ) (entry : ℕ) (begins_so : view order k.tables ≡ start_state memory entry) (idle : IsIdle k)
+    (none : k.outside.presented ≡ 0) (set : k.settings ≡ settings) (q : KernelState Queue) (so : q ≡ record k { outside = attached k.outside journal }) where
+  abbrev first : ℕ → Engine
+  first stop = record { kernel = q; instructions = 0; stop = stop; last = None; stage = Paused; rules = rules_of settings q.outside.journal }
+
+  first_idle : IsIdle q
+  first_idle = subst IsIdle (sym so) (record { main = idle.main; rest = idle.rest })
+
+  journal_is : q.outside.journal ≡ journal
+  journal_is = ap (λ (x : KernelState Queue). x.outside.journal) so
+
+  presented_is : q.outside.presented ≡ 0
+  presented_is = ap (λ (x : KernelState Queue). x.outside.presented) so ∙ none
+
+  pub first_rules : rules_of settings q.outside.journal ≡ rules_of settings journal
+  first_rules = ap (rules_of settings) journal_is
+
+  pub first_now : (stop : ℕ) → moment_of (record { kernel = q; instructions = 0; stop = stop; last = None; stage = Paused; rules = rules_of settings q.outside.journal }) ≡ start memory entry
+  first_now stop =
+      let state = moment_state (first stop) first_idle ∙ ap (λ (x : KernelState Queue). view order x.tables) so ∙ begins_so in
+      let taken = none_taken q.outside presented_is in
+      λ i. record { state = state i; instructions = 0; last = None; taken = taken i }
+
+  first_prompt : (stop : ℕ) → ArePrompt (rules_of settings q.outside.journal) (moment_of (first stop)) q.outside
+  first_prompt stop = record { due = λ n left low. absurd (never n left low); placed = λ n at left low is. absurd (never n left low) }
+    where
+      never : (n : ℕ) → is_in n (untaken q.outside.journal.entries (moment_of (first stop)).taken) ≡ true → n ≤ q.outside.presented → ⊥
+      never n left low =
+          let found = in_untaken q.outside.journal.entries (moment_of (first stop)).taken n left in
+          let some = (place_in q.outside.journal.entries n found.0 found.1).1 in
+          let nothing = presented_is in
+          omega (arith, some, low, nothing)
+
+  pub first_sound : (stop : ℕ) → IsSoundOutside q.outside → IsJournal journal → AreSignals journal.entries → settings.budget ≤ 1000000000
+      → stop ≡ stop_of settings.budget (next_place q.outside.journal q.outside.presented)
+      → IsSound (record { kernel = q; instructions = 0; stop = stop; last = None; stage = Paused; rules = rules_of settings q.outside.journal })
+  first_sound stop outside whole signals limit stopped = record {
+    within = omega arith;
+    limit = limit;
+    stop = stopped;
+    settings = ap (λ (x : KernelState Queue). x.settings) so ∙ set;
+    journal = refl;
+    whole = subst IsJournal (sym journal_is) whole;
+    signals = subst (λ (j : Contents). AreSignals j.entries) (sym journal_is) signals;
+    outside = outside.stands;
+    prompt = first_prompt stop;
+    good = subst (λ (m : Moment). IsGood m.state) (sym (first_now stop)) (goodness.0 memory entry);
+    bounded = subst IsBounded (sym (first_now stop)) (bounded_start memory entry);
+    stands = first_idle;
+  }

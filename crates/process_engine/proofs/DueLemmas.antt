@@ -20,7 +20,7 @@ use Rattle.posix_model.specs.Laws.{taken_in_all}
 use Rattle.posix_model.specs.Runs.{Rules, Moment, due, due_by, is_waiting, taken_by, moved, IsAlone, MayArrive}
 use Rattle.posix_model.specs.Weights.{total}
 use Rattle.posix_model.specs.declared.Move.TheVariants.{Arrive}
-use Rattle.posix_model.proofs.JournalLemmas.{Ascends, first_least, is_kind_refl, left_ascends, in_untaken, untaken_from, untaken_ascends, in_reached, reached_from, reached_before, in_drop_less, more_taken}
+use Rattle.posix_model.proofs.JournalLemmas.{Ascends, first_least, is_kind_refl, place_in, left_ascends, in_untaken, untaken_from, untaken_ascends, in_reached, reached_from, reached_before, in_drop_less, more_taken}
 use Rattle.kernel_state.specs.Outside.{OutsideState, is_nothing}
 use Rattle.kernel_state.specs.Presented.{kind_of_event, event_of_kind, StandsFor, Stands, AreDue}
 use Rattle.kernel_state.proofs.NumberLemmas.{get_drop, get_some, numbers_split, number_in}
@@ -66,7 +66,7 @@ first_gone : (xs : List ℕ) (first count : ℕ) → Ascends xs → slice_get xs
 first_gone [] first count asc next some h = let e : None ≡ Some first = next in cc
 first_gone (x ∷ xs) first zero asc next some h = omega (arith, some)
 first_gone (x ∷ xs) first (suc count) asc next some h =
-    not_again x xs count asc.0 (sym (ap (λ n. is_in n (drop count xs)) (same_Some x first next)) ∙ h)
+    not_again x xs count asc.0 (ap (λ n. is_in n (drop count xs)) (same_Some x first next) ∙ h)
 
 first_of_all : (P : ℕ → Type 0) (count : ℕ) (xs : List ℕ) (x : ℕ) → 1 ≤ count → slice_get xs 0 ≡ Some x → AllByRecursion P (take count xs) → P x
 first_of_all P zero xs x some first all = absurd (omega (arith, some))
@@ -77,12 +77,12 @@ min_le : (a b : ℕ) → min a b ≤ a
 min_le a b = omega arith
 
 -- what was set is read, and the others stay
-set_here : (xs : List Place) (i : ℕ) (x y : Place) → slice_get (slice_set xs i x) i ≡ Some y → y ≡ x
+pub set_here : (xs : List Place) (i : ℕ) (x y : Place) → slice_get (slice_set xs i x) i ≡ Some y → y ≡ x
 set_here [] i x y h = let e : None ≡ Some y = h in absurd (cc)
 set_here (z ∷ zs) zero x y h = sym (same_Some x y h)
 set_here (z ∷ zs) (suc i) x y h = set_here zs i x y h
 
-set_there : (xs : List Place) (i j : ℕ) (x : Place) → (j ≡ i → ⊥) → slice_get (slice_set xs i x) j ≡ slice_get xs j
+pub set_there : (xs : List Place) (i j : ℕ) (x : Place) → (j ≡ i → ⊥) → slice_get (slice_set xs i x) j ≡ slice_get xs j
 set_there [] i j x other = refl
 set_there (z ∷ zs) zero zero x other = absurd (other refl)
 set_there (z ∷ zs) zero (suc j) x other = refl
@@ -164,6 +164,22 @@ due_only [] (x ∷ xs) true n h =
     ]
 due_only [] left false n h = let e : false ≡ true = h in absurd (cc)
 due_only (x ∷ xs) left waiting n h = inl h
+
+-- what is due is an entry
+pub due_there : (rules : Rules) (now : Moment) (m : ℕ) → is_in m (due rules now) ≡ true → m ≤ length rules.journal.entries
+unfolding due
+due_there rules now m h =
+    let es = rules.journal.entries in
+    let left : is_in m (untaken es now.taken) ≡ true =
+    elim (due_only (reached es now.taken now.instructions) (untaken es now.taken) (is_waiting now.state) m h) [
+      | inl r ↦ (in_reached es now.taken now.instructions m r).0
+      | inr only ↦ first_in (untaken es now.taken) m only.2
+    ] in
+    let found = in_untaken es now.taken m left in
+    let place = place_in es m found.0 found.1 in
+    let at = place.1 in
+    let within = slice_get_within es place.0 found.0 place.2 in
+    omega (arith, at, within)
 
 -- ---- by how many instructions were made, and whether nothing else can happen
 
@@ -283,17 +299,17 @@ module _ (rules : Rules) (now : Moment) (o : OutsideState) (journal : IsJournal 
 
   -- where nothing waits and the next entry is not due, nothing is due
   pub nothing_due : is_empty o ≡ true → is_in (o.presented + 1) (due rules now) ≡ false → due rules now ≡ []
+  unfolding due
   nothing_due none not_next = nil_of (due rules now) (λ n h. elim (due_is n h) [
-      | inl r ↦ early n (in_reached es now.taken now.instructions n r).0 (λ first left low.
-          in_due first (reached_before es now.taken now.instructions n next first.0 journal.each left (entry_index es o.presented ∙ first.1) low r))
-      | inr only ↦ early n (first_in (untaken es now.taken) n only.2) (λ first left low.
-          (let least = least_of (untaken es now.taken) n next (untaken_ascends es now.taken) only.2 left in
-          let is : n ≡ next = omega (arith, least, low) in
-          subst (λ m. is_in m (due rules now) ≡ true) is h))
-    ])
+    | inl r ↦ early n (in_reached es now.taken now.instructions n r).0 (λ first left low.
+        in_due first (reached_before es now.taken now.instructions n next first.0 journal.each left (entry_index es o.presented ∙ first.1) low r))
+    | inr only ↦ early n (first_in (untaken es now.taken) n only.2) (λ first left low.
+        (let least = least_of (untaken es now.taken) n next (untaken_ascends es now.taken) only.2 left in
+        let is : n ≡ next = omega (arith, least, low) in
+        subst (λ m. is_in m (due rules now) ≡ true) is h))
+  ])
     where
       in_due : (first : (e : Entry) × (slice_get es o.presented ≡ Some e)) → is_in next (reached es now.taken now.instructions) ≡ true → is_in next (due rules now) ≡ true
-      unfolding due
       in_due first r = in_due_by (reached es now.taken now.instructions) (untaken es now.taken) (is_waiting now.state) next r
 
       -- no entry that is left is due, as the next one would be
@@ -317,6 +333,16 @@ module _ (rules : Rules) (now : Moment) (o : OutsideState) (journal : IsJournal 
       by : (place : Option ℕ) → now.instructions < stop_of budget place → is_reached_or place now.instructions false ≡ false
       by None less = refl
       by (Some n) less = ap (λ b. b || false) (lt-leb n now.instructions (let least = min_le n budget in omega (arith, less, least)))
+
+  -- where the next entry is not due, though a thread can go on, its place is not reached
+  pub not_reached : is_waiting now.state ≡ false → is_in (o.presented + 1) (due rules now) ≡ false → (n : ℕ) → next_place rules.journal o.presented ≡ Some n → now.instructions < n
+  not_reached busy none n is =
+      let found : (nat_le n now.instructions || false) ≡ false =
+      ap (λ place. is_reached_or place now.instructions false) (sym is) ∙ next_due false (sym (ap (λ b. b && is_empty o) busy)) ∙ none in
+      elim (cases_Bool (nat_le n now.instructions)) [
+        | inl low ↦ absurd (let e : true ≡ false = sym (ap (λ b. b || false) low) ∙ found in cc)
+        | inr high ↦ leb-false n now.instructions high
+      ]
 
   -- an entry more was presented, which is due
   pub due_more : AreDue rules now o.presented → is_in (o.presented + 1) (due rules now) ≡ true → AreDue rules now (o.presented + 1)
@@ -367,23 +393,22 @@ module _ (rules : Rules) (now : Moment) (first count : ℕ) (at : Place) (may : 
 
   -- those that were presented and are left stay due
   pub due_later : (presented : ℕ) → AreDue rules now presented → AreDue rules (moved rules now (Arrive first count at)) presented
+  unfolding due
   due_later presented before n left low =
       let es = rules.journal.entries in
       let was = left_before n left in
       elim (only n (before n was low)) [
         | inl r ↦ again n left r
         | inr alone ↦ absurd (elim (only first (first_of_all (λ m. is_in m (due rules now) ≡ true) count (left_of_kind es now.taken (kind_of may.entry.what)) first some may.next may.due)) [
-            | inl r ↦ (let none : false ≡ true = sym (ap (is_in first) alone.0) ∙ r in cc)
-            | inr its ↦ first_taken (subst (λ m. is_in m (untaken es later.taken) ≡ true) (same_Some n first (sym alone.2 ∙ its.2)) left)
-          ])
+          | inl r ↦ (let none : false ≡ true = sym (ap (is_in first) alone.0) ∙ r in cc)
+          | inr its ↦ first_taken (subst (λ m. is_in m (untaken es later.taken) ≡ true) (same_Some n first (sym alone.2 ∙ its.2)) left)
+        ])
       ]
     where
       only : (n : ℕ) → is_in n (due rules now) ≡ true → IsOnly (reached rules.journal.entries now.taken now.instructions) (untaken rules.journal.entries now.taken) (is_waiting now.state) n
-      unfolding due
       only n h = due_only (reached rules.journal.entries now.taken now.instructions) (untaken rules.journal.entries now.taken) (is_waiting now.state) n h
 
       again : (n : ℕ) → is_in n (untaken rules.journal.entries later.taken) ≡ true → is_in n (reached rules.journal.entries now.taken now.instructions) ≡ true → is_in n (due rules later) ≡ true
-      unfolding due
       again n left r =
           let found = in_reached rules.journal.entries now.taken now.instructions n r in
           in_due_by (reached rules.journal.entries later.taken now.instructions) (untaken rules.journal.entries later.taken) (is_waiting later.state) n

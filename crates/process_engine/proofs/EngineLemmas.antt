@@ -48,7 +48,7 @@ use Rattle.kernel_state.proofs.NoteLemmas.{idle_remaining}
 use Rattle.process_engine.proofs.CountLemmas.{IsPlainMain, IsDeliveryMain, instruction_counts, delivery_counts}
 use Rattle.process_engine.proofs.DeliveryLemmas.{delivery_main}
 use Rattle.process_engine.proofs.InstructionLemmas.{has_begun}
-use Rattle.process_engine.proofs.DueLemmas.{none_presented, none_before, nothing_due, taken_few}
+use Rattle.process_engine.proofs.DueLemmas.{is_reached_or, none_presented, none_before, next_due, not_reached, nothing_due, taken_few}
 
 -- at rest nothing is left, and nothing is owed
 pub none_remaining : (rest : Rest) → IsEmpty rest → length (remaining rest) ≡ 0
@@ -124,6 +124,16 @@ none_prompt p now sound none same =
       placed = λ n at left low is. absurd (never n left low);
     }
 
+-- a process at rest may pause
+pub paused_now : (p : Engine) → moment_of (record { kernel = p.kernel; instructions = p.instructions; stop = p.stop; last = p.last; stage = Paused; rules = p.rules }) ≡ moment_of p
+unfolding owed_of
+paused_now p = refl
+
+pub paused_sound : (p : Engine) → IsSound p → IsIdle p.kernel → IsSound (record { kernel = p.kernel; instructions = p.instructions; stop = p.stop; last = p.last; stage = Paused; rules = p.rules })
+paused_sound p sound rest =
+    sound_same p (record { kernel = p.kernel; instructions = p.instructions; stop = p.stop; last = p.last; stage = Paused; rules = p.rules }) sound refl refl refl p.kernel.outside refl refl refl sound.outside rest
+    (paused_now p) sound.prompt
+
 -- a thread is chosen, and has its turn: nothing waits outside, and the next entry is not due
 pub record Turn (p : Engine) (t : ℕ) : Type 0 where
   pub rest : IsIdle p.kernel
@@ -154,19 +164,24 @@ nobody_ready s settled first = (λ i. is_none (settled i) && by s.ready first i)
     by [] e = refl
     by (x ∷ xs) e = absurd (let some = first_some (eff s) x xs in let h : Some some.0 ≡ None = sym some.1 ∙ e in cc)
 
+pub unsettled : (s : State) (d : Delivery) → next_delivery s ≡ Some d → is_waiting s ≡ false
+unsettled s d next = ap (λ o. is_none o && is_nil s.ready) next
+
 pub going_turn : (p : Engine) → IsSound p → p.stage ≡ Going → p.instructions < p.stop → Turn p p.kernel.tables.records.placed × (p.last ≡ Some p.kernel.tables.records.placed)
 going_turn p sound e before =
     let on = stands_at p Going sound e in
     let busy = some_ready (moment_of p).state p.kernel.tables.records.placed (ap chosen (moment_state p on.0) ∙ on.1.first) in
-    let stop = sound.stop in
-    (record {
-      rest = on.0;
-      nothing_waits = on.1.nothing_waits;
-      none_due = none_before p.rules (moment_of p) p.kernel.outside sound.whole sound.journal sound.outside p.rules.settings.budget busy (omega (arith, before, stop));
-      going_on = on.1.going_on;
-      settled = on.1.settled;
-      first = on.1.first;
-    }, on.2)
+    let stop = sound.stop in (
+      record {
+        rest = on.0;
+        nothing_waits = on.1.nothing_waits;
+        none_due = none_before p.rules (moment_of p) p.kernel.outside sound.whole sound.journal sound.outside p.rules.settings.budget busy (omega (arith, before, stop));
+        going_on = on.1.going_on;
+        settled = on.1.settled;
+        first = on.1.first;
+      },
+      on.2,
+    )
 
 -- the next entry is not due at rest
 pub not_due : (p : Engine) → IsSound p → (position_of p).telling ≡ None → is_due p ≡ false → is_in (p.kernel.outside.presented + 1) (due p.rules (moment_of p)) ≡ false
@@ -184,6 +199,40 @@ chosen_turn p old t is sound paused none_due nothing over settled first =
       settled = settled;
       first = first;
     })
+
+-- what the stage says of a move in progress
+pub quiet_stage : (stage : Stage) (report : Report) → (stage ≡ InCall → ⊥) → telling_of stage report ≡ None
+quiet_stage Going report other = refl
+quiet_stage Paused report other = refl
+quiet_stage InCall report other = absurd (other refl)
+
+-- the next entry is due as it is found
+pub due_found : (p : Engine) → IsSound p → IsIdle p.kernel → (position_of p).telling ≡ None → (waiting : Bool) → waiting ≡ (is_waiting (view order p.kernel.tables) && is_empty p.kernel.outside)
+    → is_reached_or (next_place p.kernel.outside.journal p.kernel.outside.presented) p.instructions waiting ≡ is_due p
+due_found p sound rest quiet waiting is =
+    ap (λ (j : Contents). is_reached_or (next_place j p.kernel.outside.presented) p.instructions waiting) sound.journal
+    ∙ next_due p.rules (moment_of p) p.kernel.outside sound.whole sound.journal sound.outside waiting (is ∙ ap (λ (s : State). is_waiting s && is_empty p.kernel.outside) (sym (moment_state p rest)))
+    ∙ sym (ap (λ o. is_none o && is_in (p.kernel.outside.presented + 1) (due p.rules (moment_of p))) quiet)
+
+-- what it says that it is due
+pub due_parts : (p : Engine) → is_due p ≡ true → ((position_of p).telling ≡ None) × (is_in (p.kernel.outside.presented + 1) (due p.rules (moment_of p)) ≡ true)
+due_parts p is = by (position_of p).telling is
+  where
+    by : (o : Option Report) → (is_none o && is_in (p.kernel.outside.presented + 1) (due p.rules (moment_of p))) ≡ true
+        → (o ≡ None) × (is_in (p.kernel.outside.presented + 1) (due p.rules (moment_of p)) ≡ true)
+    by None h = (refl, h)
+    by (Some r) h = absurd (let e : false ≡ true = h in cc)
+
+-- before the stop the budget is not used up
+stop_within : (budget : ℕ) (place : Option ℕ) → stop_of budget place ≤ budget
+stop_within budget None = omega arith
+stop_within budget (Some n) = omega arith
+
+pub in_budget : (p : Engine) → IsSound p → p.instructions < p.stop → p.instructions < p.rules.settings.budget
+in_budget p sound before =
+    let stop = sound.stop in
+    let within = stop_within p.rules.settings.budget (next_place p.rules.journal p.kernel.outside.presented) in
+    omega (arith, before, stop, within)
 
 -- the chosen thread is put in place
 module _ (p : Engine) (t : ℕ) (turn : Turn p t) (k : KernelState Queue) (same : view order k.tables ≡ view order p.kernel.tables) (placed : k.tables.records.placed ≡ t)
@@ -249,6 +298,29 @@ is_idle p old is sound rest nothing none_due over settled nobody =
 pub is_spent : (p old : Engine) (t : ℕ) → p ≡ old → IsSound p → Turn p t → p.instructions ≡ p.rules.settings.budget → EndsHere old old Budget
 is_spent p old t is sound turn spent = has_ended p old Budget is (inr (inr (refl, record { used_up = spent; tid = t; turn = turn_of p t sound turn })))
 
+-- at the stop the budget is used up, where the next entry is not due
+pub is_stopped : (p old : Engine) → p ≡ old → IsSound p → old.stage ≡ Going → is_due old ≡ false → p.stop ≤ p.instructions → EndsHere old old Budget
+is_stopped p old is sound going none_due stopped =
+    let here : p.stage ≡ Going = ap (λ (x : Engine). x.stage) is ∙ going in
+    let on = stands_at p Going sound here in
+    let late = not_due p sound (ap (λ s. telling_of s (owed_of p).report) here) (ap is_due is ∙ none_due) in
+    let busy = some_ready (moment_of p).state p.kernel.tables.records.placed (ap chosen (moment_state p on.0) ∙ on.1.first) in
+    is_spent p old p.kernel.tables.records.placed is sound
+    (record { rest = on.0; nothing_waits = on.1.nothing_waits; none_due = late; going_on = on.1.going_on; settled = on.1.settled; first = on.1.first })
+    (by busy late (next_place p.rules.journal p.kernel.outside.presented) refl)
+  where
+    by : is_waiting (moment_of p).state ≡ false → is_in (p.kernel.outside.presented + 1) (due p.rules (moment_of p)) ≡ false → (place : Option ℕ) → next_place p.rules.journal p.kernel.outside.presented ≡ place
+        → p.instructions ≡ p.rules.settings.budget
+    by busy late None at =
+        let stop : p.stop ≡ p.rules.settings.budget = sound.stop ∙ ap (stop_of p.rules.settings.budget) at in
+        let within = sound.within in
+        omega (arith, stop, within, stopped)
+    by busy late (Some n) at =
+        let stop : p.stop ≡ min n p.rules.settings.budget = sound.stop ∙ ap (stop_of p.rules.settings.budget) at in
+        let within = sound.within in
+        let far = not_reached p.rules (moment_of p) p.kernel.outside sound.whole sound.journal sound.outside busy late n at in
+        omega (arith, stop, within, stopped, far)
+
 -- a move was begun
 module _ (p q : Engine) (k : KernelState Queue) (from : view order k.tables ≡ view order p.kernel.tables) (move : Move) (g : Outcome) (has : HasBegun order k q.kernel g) (made : g ≡ make p.rules (moment_of p).state move) (allowed : Allowed p.rules (moment_of p) move)
     (stage : q.stage ≡ InCall) where
@@ -256,10 +328,10 @@ module _ (p q : Engine) (k : KernelState Queue) (from : view order k.tables ≡ 
   unfolding owed_of
   owed_is = has.owed
 
-  state_is : (owed_of q).state ≡ (make p.rules (moment_of p).state move).state
+  pub state_is : (owed_of q).state ≡ (make p.rules (moment_of p).state move).state
   state_is = ap (λ (x : Outcome). x.state) (owed_is ∙ made)
 
-  begins : moment_of q ≡ moved p.rules (moment_of p) move → told_of (counted p.rules (moment_of p) move) ≡ added_by p.last q.last g.report.head → BeginsMove p q
+  pub begins : moment_of q ≡ moved p.rules (moment_of p) move → told_of (counted p.rules (moment_of p) move) ≡ added_by p.last q.last g.report.head → BeginsMove p q
   begins leads counts = record {
     makes = record { move = move; allowed = allowed; leads = leads; counts = counts ∙ ap (λ (x : Outcome). added_by p.last q.last x.report.head) (sym owed_is) };
     told = ap (λ (x : Outcome). x.report) (owed_is ∙ made);

@@ -11,6 +11,7 @@ use Rattle.posix_model.proofs.TraceLemmas.{IsRun-more, after-more, moves_left, m
 use Rattle.process_engine.specs.Engine.{Position}
 use Rattle.process_engine.specs.Turns.{Tells, Moves, IsTurn}
 use Rattle.process_engine.specs.Whole.{RunsToEnd}
+use Rattle.process_engine.specs.declared.Turn.{Turn}
 use Rattle.process_engine.specs.declared.Turn.TheVariants.{Quiet, Made, Ended}
 
 -- some moves were made
@@ -50,6 +51,10 @@ module _ (rules : Rules) (start : Moment) (old new : Position) (so_far : HasRun 
     whole = record { run = so_far.run; ends = subst (λ x. Ends rules x ending) so_far.leads s.ends };
     leads = ap (λ (p : Position). p.now) s.same ∙ so_far.leads;
   }
+
+-- the same turn, from the same position under the same rules
+pub turn_from : (rules others : Rules) (at old new : Position) (turn : Turn) → rules ≡ others → at ≡ old → IsTurn rules at turn new → IsTurn others old turn new
+turn_from rules others at old new turn ruled same h = subst (λ p. IsTurn others p turn new) same (subst (λ r. IsTurn r at turn new) ruled h)
 
 -- from a good state
 pub good_run : (rules : Rules) (start now : Moment) → IsGood start.state → HasRun rules start now → IsGood now.state

@@ -11,6 +11,7 @@ ghost use Rattle.dispatcher.specs.Arriving.{is_empty, AreSignals};
 ghost use Rattle.process_engine.specs.Engine.{Engine, IsSound, rules_of, next_place, stop_of, is_due, position_of, moment_of, order};
 ghost use Rattle.process_engine.specs.Turns.{Presents, Completes, IsTurn, Goes, Runs};
 ghost use Rattle.process_engine.specs.Advancing.{Advances, Proceeds};
+ghost use Rattle.kernel_state.specs.Presented.{IsSound as IsSoundOutside};
 ghost use Rattle.kernel_state.specs.View.{view};
 
 use crate::moves::make_instruction;
@@ -100,7 +101,7 @@ impl Process {
     {
         match self.stage {
             Stage::InCall => false,
-            Stage::Going | Stage::Paused => match next_place(&self.kernel) {
+            _ => match next_place(&self.kernel) {
                 None => false,
                 Some(n) => n <= self.instructions || is_waiting(&self.kernel),
             },
@@ -410,7 +411,8 @@ impl Process {
 
 /// After how many instructions the next entry is reached that was not presented; None exactly where there is none.
 fn next_place<R: Ready + Drop>(k: &Kernel<R>) -> Option<u64>
-    ensures { result ≡ next_place k.now.outside.journal k.now.outside.presented }
+    ensures place { result ≡ next_place k.now.outside.journal k.now.outside.presented }
+    ensures sound { IsSoundOutside k.now.outside }
 {
     let outside = k.outside();
     let presented = outside.presented();
@@ -434,5 +436,12 @@ fn stop_before(budget: u64, next: Option<u64>) -> u64
 fn is_waiting<R: Ready + Drop>(k: &Kernel<R>) -> bool
     ensures { result ≡ (is_waiting (view R.order k.now.tables) && is_empty k.now.outside) }
 {
-    k.chosen().is_none() && k.tables().next_delivery().is_none() && k.outside().is_empty()
+    match k.chosen() {
+        Some(_) => return false,
+        None => {}
+    }
+    match k.tables().next_delivery() {
+        Some(_) => false,
+        None => k.outside().is_empty(),
+    }
 }

@@ -46,14 +46,17 @@ returns-in_default g c =
     let here = c.placed-t.ensures ∙ ap (λ (x : Tables _). x.records.placed) c.tables.ensures.tables ∙ after.placed in
     let same = stays (view order k.tables) (view order l.tables) k.tables.records.placed c.execute.result after.executed c.in_default.not-Next in
     let begun = subst (BeginsInstruction order l q) (λ i. instruction (same i) (here i)) c.begin_move.ensures in
-    let has = begun.0 in
-    (record {
-      owed = has.owed;
-      call = has.call;
-      some = has.some;
-      few = has.few;
-      shown = has.shown ∙ same;
-      main = has.main;
-      settings = has.settings ∙ ap (λ (x : KernelState _). x.settings) after.others;
-      outside = has.outside ∙ ap (λ (x : KernelState _). x.outside) after.others;
-    }, begun.1, begun.2)
+    let has = begun.0 in (
+      record {
+        owed = has.owed;
+        call = has.call;
+        some = has.some;
+        few = has.few;
+        shown = has.shown ∙ same;
+        main = has.main;
+        settings = has.settings ∙ ap (λ (x : KernelState _). x.settings) after.others;
+        outside = has.outside ∙ ap (λ (x : KernelState _). x.outside) after.others;
+      },
+      begun.1,
+      begun.2,
+    )

@@ -1,4 +1,5 @@
 use Rattle.std.proofs.Common.{◌∙◌, ap, subst}
+use Rattle.kernel_state.specs.Outside.{OutsideState}
 use Rattle.process_engine.specs.Engine.{rules_of, Engine, position_of}
 use Rattle.process_engine.specs.Turns.{Completes}
 use Rattle.process_engine.specs.declared.stage.Stage.TheVariants.{Paused, InCall}
@@ -14,12 +15,25 @@ pub invariant_of-self : goal.invariant_of-self
 invariant_of-self c =
     let calling = ap (λ (x : Engine). x.stage) c.self.view_is ∙ c.requires in
     let all = c.finish-report.ensures in
-    finish_sound (the_view c.self.inside) c.finish-report.new.self c.self.invariant calling c.finish-report.result all.state all.report all.idle
+    finish_sound (the_view c.self.inside) c.finish-report.new.self c.self.invariant calling _ (ap (λ (o : OutsideState). rules_of c.self.inside.settings o.journal) all.outside)
+    c.finish-report.result all.state all.report all.idle all.settings all.outside
 
 pub returns-clause-completes : goal.returns-clause-completes
 returns-clause-completes c =
     let calling = ap (λ (x : Engine). x.stage) c.self.view_is ∙ c.requires in
     let all = c.finish-report.ensures in
-    let q : Engine = record { kernel = c.finish-report.new.self; instructions = c.self.inside.instructions; last = c.self.inside.last; stage = Paused; rules = rules_of c.self.inside.settings } in
+    let q : Engine = record {
+      kernel = c.finish-report.new.self;
+      instructions = c.self.inside.instructions;
+      stop = c.self.inside.stop;
+      last = c.self.inside.last;
+      stage = Paused;
+      rules = rules_of c.self.inside.settings c.finish-report.new.self.outside.journal;
+    } in
     subst (λ x. Completes (position_of x) c.finish-report.result (position_of q)) c.self.view_is
-    (completes (the_view c.self.inside) c.finish-report.new.self c.self.invariant calling c.finish-report.result all.state all.report all.idle)
+    (completes (the_view c.self.inside) c.finish-report.new.self c.self.invariant calling q.rules (ap (λ (o : OutsideState). rules_of c.self.inside.settings o.journal) all.outside)
+    c.finish-report.result all.state all.report all.idle all.settings all.outside)
+
+pub returns-clause-rules : goal.returns-clause-rules
+returns-clause-rules c =
+    ap (λ (o : OutsideState). rules_of c.self.inside.settings o.journal) c.finish-report.ensures.outside ∙ ap (λ (x : Engine). x.rules) c.self.view_is

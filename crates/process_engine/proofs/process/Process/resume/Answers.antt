@@ -1,60 +1,73 @@
-use Rattle.std.proofs.Common.{◌∙◌, ap, sym, refl}
+use Rattle.std.proofs.Common.{◌∙◌, ap, sym, refl, subst}
+use Rattle.ready_queues.specs.Queue.{Queue, level_of}
 use Rattle.posix_model.specs.Deliveries.{next_delivery}
+use Rattle.posix_model.specs.Scheduling.{chosen}
+use Rattle.kernel_state.specs.Kernels.{KernelState}
 use Rattle.kernel_state.specs.View.{view}
 use Rattle.kernel_state.specs.declared.tables.Tables.{Tables}
-use Rattle.process_engine.specs.Engine.{Engine, order}
-use Rattle.process_engine.specs.declared.stage.Stage.TheVariants.{Paused}
-use Rattle.process_engine.specs.contracts.process.Process.{the_view}
-use Rattle.ready_queues.specs.Queue.{level_of}
 use Rattle.kernel_state.proofs.KernelLemmas.{rests}
-use Rattle.kernel_state.specs.Executing.{delivery_by}
-use Rattle.process_engine.proofs.EngineLemmas.{stands_at, has_room, is_over, is_idle, delivers, delivers_sound}
+use Rattle.process_engine.specs.Engine.{Engine, order, owed_of, telling_of, rules_of, is_due}
+use Rattle.process_engine.specs.Advancing.{EndsHere}
+use Rattle.process_engine.specs.declared.stage.Stage.TheVariants.{Paused}
+use Rattle.posix_model.specs.declared.Ending.TheVariants.{Idle}
+use Rattle.process_engine.specs.contracts.process.Process.{the_view}
+use Rattle.process_engine.proofs.EngineLemmas.{stands_at, has_room, is_over, is_idle, not_due}
+use Rattle.process_engine.proofs.ArrivalLemmas.{journal_stays, next_begins, next_sound, none_next}
 use Rattle.process_engine.proofs.process.Process.resume.Goals as goal
 
 pub returns-in-Some-clause-advances : goal.returns-in-Some-clause-advances
 returns-in-Some-clause-advances c =
     let p = the_view c.self.inside in
-    let rest = stands_at p Paused c.self.invariant (ap (λ (x : Engine). x.stage) c.self.view_is ∙ c.requires) in
+    let rest = stands_at p Paused c.self.invariant (ap (λ (x : Engine). x.stage) c.self.view_is ∙ c.requires.rest) in
     is_over p c.args.self.now c.in-Some.ending c.self.view_is rest (ap (λ (t : Tables _). (view order t).over) (sym c.tables.ensures.tables) ∙ sym c.over.ensures ∙ c.in-Some.is)
 
-pub begin_delivery-requires : goal.begin_delivery-requires
-begin_delivery-requires c =
+pub begin_next-requires-clause-room : goal.begin_next-requires-clause-room
+begin_next-requires-clause-room c =
     let p = the_view c.self.inside in
-    let rest = stands_at p Paused c.self.invariant (ap (λ (x : Engine). x.stage) c.self.view_is ∙ c.requires) in
-    record {
-      idle = rest;
-      room = has_room p c.self.inside.kernel c.self.invariant rest refl;
-      next = ap (λ (t : Tables _). next_delivery (view order t)) (sym c.tables-2.ensures.tables) ∙ c.next_delivery.ensures ∙ ap delivery_by c.in-Some-next_delivery.is;
-    }
+    let rest = stands_at p Paused c.self.invariant (ap (λ (x : Engine). x.stage) c.self.view_is ∙ c.requires.rest) in
+    has_room p c.self.inside.kernel c.self.invariant rest refl
 
 pub invariant_of-self : goal.invariant_of-self
 invariant_of-self c =
     let p = the_view c.self.inside in
-    let rest = stands_at p Paused c.self.invariant (ap (λ (x : Engine). x.stage) c.self.view_is ∙ c.requires) in
+    let rest = stands_at p Paused c.self.invariant (ap (λ (x : Engine). x.stage) c.self.view_is ∙ c.requires.rest) in
     let over = ap (λ (t : Tables _). (view order t).over) (sym c.tables.ensures.tables) ∙ sym c.over.ensures ∙ c.in-None.is in
     let at_rest = rests order level_of _ c.tables.ensures.sound rest.main in
-    let next = ap (λ (t : Tables _). next_delivery (view order t)) (sym c.tables-2.ensures.tables) ∙ c.next_delivery.ensures ∙ ap delivery_by c.in-Some-next_delivery.is in
-    delivers_sound p c.args.self.now c.self.view_is _ c.self.invariant rest at_rest.1 over next c.begin_delivery.new.k c.begin_delivery.ensures
+    let next = c.begin_next.ensures in
+    let begun = sym c.if-begin_next.true ∙ next.begun in
+    let journal = journal_stays p c.args.self.now c.self.view_is c.self.invariant rest at_rest.1 over c.begin_next.new.k next.arrival (λ nothing. next.delivery nothing c.if-begin_next.true) begun in
+    next_sound p c.args.self.now c.self.view_is c.self.invariant rest at_rest.1 over c.begin_next.new.k next.arrival (λ nothing. next.delivery nothing c.if-begin_next.true) begun
+    _ (ap (rules_of c.self.inside.settings) journal)
 
-pub returns-in-Some-next_delivery-clause-advances : goal.returns-in-Some-next_delivery-clause-advances
-returns-in-Some-next_delivery-clause-advances c =
+pub returns-then-begin_next-clause-advances : goal.returns-then-begin_next-clause-advances
+returns-then-begin_next-clause-advances c =
     let p = the_view c.self.inside in
-    let rest = stands_at p Paused c.self.invariant (ap (λ (x : Engine). x.stage) c.self.view_is ∙ c.requires) in
+    let rest = stands_at p Paused c.self.invariant (ap (λ (x : Engine). x.stage) c.self.view_is ∙ c.requires.rest) in
     let over = ap (λ (t : Tables _). (view order t).over) (sym c.tables.ensures.tables) ∙ sym c.over.ensures ∙ c.in-None.is in
     let at_rest = rests order level_of _ c.tables.ensures.sound rest.main in
-    let next = ap (λ (t : Tables _). next_delivery (view order t)) (sym c.tables-2.ensures.tables) ∙ c.next_delivery.ensures ∙ ap delivery_by c.in-Some-next_delivery.is in
-    delivers p c.args.self.now c.self.view_is _ c.self.invariant rest at_rest.1 over next c.begin_delivery.new.k c.begin_delivery.ensures
-
-pub switch_to-requires-clause-settled : goal.switch_to-requires-clause-settled
-switch_to-requires-clause-settled c =
-    ap (λ (x : Engine). next_delivery (view order x.kernel.tables)) (sym c.self.view_is)
-    ∙ ap (λ (t : Tables _). next_delivery (view order t)) (sym c.tables-2.ensures.tables) ∙ c.next_delivery.ensures ∙ ap delivery_by c.in-None-next_delivery.is
+    let next = c.begin_next.ensures in
+    let begun = sym c.if-begin_next.true ∙ next.begun in
+    let journal = journal_stays p c.args.self.now c.self.view_is c.self.invariant rest at_rest.1 over c.begin_next.new.k next.arrival (λ nothing. next.delivery nothing c.if-begin_next.true) begun in
+    next_begins p c.args.self.now c.self.view_is c.self.invariant rest at_rest.1 over c.begin_next.new.k next.arrival (λ nothing. next.delivery nothing c.if-begin_next.true) begun
+    _ (ap (rules_of c.self.inside.settings) journal)
 
 pub returns-in-None-chosen-clause-advances : goal.returns-in-None-chosen-clause-advances
 returns-in-None-chosen-clause-advances c =
     let p = the_view c.self.inside in
-    let rest = stands_at p Paused c.self.invariant (ap (λ (x : Engine). x.stage) c.self.view_is ∙ c.requires) in
-    is_idle p c.args.self.now c.self.view_is c.self.invariant rest
-    (ap (λ (t : Tables _). (view order t).over) (sym c.tables.ensures.tables) ∙ sym c.over.ensures ∙ c.in-None.is)
-    (ap (λ (t : Tables _). next_delivery (view order t)) (sym c.tables-2.ensures.tables) ∙ c.next_delivery.ensures ∙ ap delivery_by c.in-None-next_delivery.is)
-    (sym c.chosen.ensures ∙ c.in-None-chosen.is)
+    let paused = ap (λ (x : Engine). x.stage) c.self.view_is ∙ c.requires.rest in
+    let rest = stands_at p Paused c.self.invariant paused in
+    let over = ap (λ (t : Tables _). (view order t).over) (sym c.tables.ensures.tables) ∙ sym c.over.ensures ∙ c.in-None.is in
+    let none = none_next _ _ (sym c.if-begin_next.false ∙ c.begin_next.ensures.begun) in
+    let same = c.begin_next.ensures.settled c.if-begin_next.false in
+    let nobody = ap (λ (k : KernelState Queue). chosen (view order k.tables)) (sym same) ∙ sym c.chosen.ensures ∙ c.in-None-chosen.is in
+    let late = not_due p c.self.invariant (ap (λ s. telling_of s (owed_of p).report) paused) (ap is_due c.self.view_is ∙ c.requires.none_due) in
+    let here = is_idle p c.args.self.now c.self.view_is c.self.invariant rest none.0 late over none.1 nobody in
+    let after : KernelState Queue → Engine = λ k. record {
+      kernel = k;
+      instructions = c.self.inside.instructions;
+      stop = c.self.inside.stop;
+      last = c.self.inside.last;
+      stage = c.self.inside.stage;
+      rules = rules_of c.self.inside.settings k.outside.journal;
+    } in
+    subst (λ q. EndsHere c.args.self.now q Idle) (sym (ap after same ∙ c.self.view_is)) here

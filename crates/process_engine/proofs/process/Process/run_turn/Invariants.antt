@@ -6,9 +6,9 @@ use Rattle.process_engine.specs.Advancing.{Makes}
 use Rattle.process_engine.specs.declared.stage.Stage.TheVariants.{Going}
 use Rattle.process_engine.proofs.process.Process.run_turn.Given as goal
 
-abbrev pub invariant-loop-advance : goal.invariant-loop-advance
-invariant-loop-advance l =
+abbrev pub invariant-loop-self : goal.invariant-loop-self
+invariant-loop-self l =
     (l.self.rules ≡ l.fn.self.rules) × (l.self.stage ≡ Going) × Makes l.fn.self.rules (moment_of l.fn.self) (moment_of l.self) no_counts []
 
-abbrev pub decreases-loop-advance : goal.decreases-loop-advance
-decreases-loop-advance l = moves_left l.fn.self.rules (moment_of l.self)
+abbrev pub decreases-loop-self : goal.decreases-loop-self
+decreases-loop-self l = moves_left l.fn.self.rules (moment_of l.self)
