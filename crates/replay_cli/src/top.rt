@@ -1,18 +1,22 @@
 ghost use Rattle.std.specs.Prelude.{◌≡◌, ◌≢◌, ◌<◌, ◌≤◌, ◌⊎◌, ◌↔◌, ◌+◌, true, false, [], codes, length, slice_index_or, take, IfSome, IfOk, IfErr, OnOk, List, ℕ, Option, Some, None};
+ghost use Rattle.journal_text.specs.Refusals.{entries_of};
+ghost use Rattle.journal_text.specs.Valid as valid;
 ghost use Rattle.elf_image.specs.Refusal.{first_refusal};
 ghost use Rattle.replay_io.specs.Writing.{Rose};
 ghost use Rattle.posix_model.specs.Start as machine;
+ghost use Rattle.dispatcher.specs.Arriving.{AreSignals};
 ghost use Rattle.process_engine.specs.Engine.{moment_of, position_of};
 ghost use Rattle.replay_cli.specs.Words.{are_accepted, image_name, journal_name};
-ghost use Rattle.replay_cli.specs.Journal.{first_bad};
+ghost use Rattle.replay_cli.specs.Journal.{first_refused};
 ghost use Rattle.replay_cli.specs.Failures.{status_of};
 ghost use Rattle.replay_cli.specs.Headline.{loaded, memory_size, default_rules, IsStartOf, WritesRunOf, WritesFrontOf};
 ghost use Rattle.replay_cli.specs.Causes.{IsImage, IsJournal, ImageCause, JournalCause, Cause, Tells, Fails, IsSmooth};
 
 use crate::accepted::are_accepted;
 use crate::failure::{Failure, Status};
-use crate::journal::check_journal;
+use crate::journal::read_accepted;
 use elf_image::EntryPoint;
+use journal_text::{Journal, JournalRefusal};
 use posix_model::Settings;
 use process_engine::{Process, WriteFault};
 use replay_io::{Files, LoadRefusal, Sink, Words};
@@ -72,21 +76,25 @@ fn accept_image<F: Files>(alloc: Global, name: &str, files: &mut F) -> Result<Pr
     }
 }
 
-/// Whether the journal is accepted, or why it is not.
-fn accept_journal<F: Files>(alloc: Global, name: &str, files: &mut F) -> Result<(), Failure>
-    ensures ok { OnOk result (IsJournal (F.content files.old name.now)) }
+/// The journal that a name holds, or why it is not accepted.
+fn accept_journal<F: Files>(alloc: Global, name: &str, files: &mut F) -> Result<Journal, Failure>
+    ensures accepted { OnOk result (IsJournal (F.content files.old name.now)) }
+    ensures entries { IfOk result (λ j. IfSome (F.content files.old name.now) (λ journal. j ≡ entries_of (loaded journal))) }
+    ensures journal { IfOk result valid.IsJournal }
+    ensures signals { IfOk result (λ j. AreSignals j.entries) }
     ensures cause { IfErr result (JournalCause (F.content files.old name.now) (F.faults files.old name.now) (F.faults files.new name.now)) }
     ensures same { (n : List ℕ) → F.content files.new n ≡ F.content files.old n }
     ensures later { (n : List ℕ) → F.faults files.old n ≤ F.faults files.new n }
 {
-    let journal = match load_file(alloc, name, files) {
+    let bytes = match load_file(alloc, name, files) {
         Ok(bytes) => bytes,
         Err(LoadRefusal::Failed) => return Err(Failure::JournalFile),
         Err(LoadRefusal::NoMemory) => return Err(Failure::Memory),
     };
-    match check_journal(&journal) {
-        None => Ok(()),
-        Some(refusal) => Err(Failure::Journal(refusal)),
+    match read_accepted(alloc, &bytes) {
+        Ok(journal) => Ok(journal),
+        Err(JournalRefusal::NoMemory) => Err(Failure::Memory),
+        Err(refusal) => Err(Failure::Journal(refusal)),
     }
 }
 
@@ -114,7 +122,7 @@ pub(crate) fn accept<F: Files>(
         Err(failure) => return Err(failure),
     };
     match accept_journal(alloc, words.word(1), files) {
-        Ok(()) => {}
+        Ok(_) => {}
         Err(failure) => return Err(failure),
     }
     match Process::new(alloc, program.mem, program.entry, SETTINGS) {
@@ -171,7 +179,7 @@ pub fn replay<F: Files, O: Sink, E: Sink>(
     ensures words { (result ≡ Status.Words) ↔ (are_accepted words.now ≡ false) }
     ensures read { result ≡ Status.ReadFault → Rose (F.faults files.old (image_name words.now)) (F.faults files.new (image_name words.now)) ⊎ (IsImage (F.content files.old (image_name words.now)) × Rose (F.faults files.old (journal_name words.now)) (F.faults files.new (journal_name words.now))) }
     ensures image { result ≡ Status.Image → IfSome (F.content files.old (image_name words.now)) (λ image. first_refusal (loaded image) memory_size ≢ None) }
-    ensures journal { result ≡ Status.Journal → IfSome (F.content files.old (journal_name words.now)) (λ journal. first_bad (loaded journal) ≢ None) }
+    ensures journal { result ≡ Status.Journal → IfSome (F.content files.old (journal_name words.now)) (λ journal. first_refused (loaded journal) ≢ None) }
     ensures write { result ≡ Status.WriteFault → Rose (O.faults out.old) (O.faults out.new) }
 
     // What stands in `out` afterwards.
