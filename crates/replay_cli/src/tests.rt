@@ -244,6 +244,22 @@ fn refused_entries(rt: HostRuntime) -> Result<(), Fail> {
 }
 
 #[test]
+fn a_signal_beyond_the_end(rt: HostRuntime) -> Result<(), Fail> {
+    let alloc = rt.alloc();
+    check(
+        &rt,
+        alloc,
+        &given(
+            &SMALLEST,
+            b"fsu-journal 1\n1000.0 sig 10\n",
+            Status::Ran,
+            SMALLEST_TEXT,
+            b"",
+        ),
+    )
+}
+
+#[test]
 fn endings(rt: HostRuntime) -> Result<(), Fail> {
     let alloc = rt.alloc();
     // a jump by 2

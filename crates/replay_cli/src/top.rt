@@ -109,7 +109,7 @@ pub(crate) fn accept<F: Files>(
     ensures journal { OnOk result (IsJournal (F.content files.old (journal_name words.now))) }
     ensures start { IfOk result (λ p. IfSome (F.content files.old (image_name words.now)) (λ image. IsStartOf (loaded image) (moment_of p))) }
     ensures at_rest { IfOk result (λ p. (position_of p).telling ≡ None) }
-    ensures rules { IfOk result (λ p. p.rules ≡ default_rules) }
+    ensures rules { IfOk result (λ p. IfSome (F.content files.old (journal_name words.now)) (λ journal. p.rules ≡ default_rules (loaded journal))) }
     ensures cause { IfErr result (λ f. (a b : ℕ) → Cause words.now (F.content files.old) (F.faults files.old) (F.faults files.new) a b f) }
     ensures early { IfErr result (λ f. f ≢ Failure.Output) }
     ensures same { (n : List ℕ) → F.content files.new n ≡ F.content files.old n }
@@ -121,11 +121,11 @@ pub(crate) fn accept<F: Files>(
         Ok(program) => program,
         Err(failure) => return Err(failure),
     };
-    match accept_journal(alloc, words.word(1), files) {
-        Ok(_) => {}
+    let journal = match accept_journal(alloc, words.word(1), files) {
+        Ok(journal) => journal,
         Err(failure) => return Err(failure),
-    }
-    match Process::new(alloc, program.mem, program.entry, SETTINGS) {
+    };
+    match Process::new(alloc, program.mem, program.entry, journal, SETTINGS) {
         Ok(process) => Ok(process),
         Err(NoMemory) => Err(Failure::Memory),
     }
@@ -140,11 +140,11 @@ fn attempt<F: Files, O: Sink>(
 ) -> Result<(), Failure>
     ensures words { OnOk result (are_accepted words.now ≡ true) }
     ensures journal { OnOk result (IsJournal (F.content files.old (journal_name words.now))) }
-    ensures ran { OnOk result (IfSome (F.content files.old (image_name words.now)) (λ image. WritesRunOf (loaded image) (O.written out.old) (O.written out.new))) }
+    ensures ran { OnOk result (IfSome (F.content files.old (image_name words.now)) (λ image. IfSome (F.content files.old (journal_name words.now)) (λ journal. WritesRunOf (loaded image) (loaded journal) (O.written out.old) (O.written out.new)))) }
     ensures kept { OnOk result (O.faults out.new ≡ O.faults out.old) }
     ensures cause { IfErr result (Cause words.now (F.content files.old) (F.faults files.old) (F.faults files.new) (O.faults out.old) (O.faults out.new)) }
     ensures nothing { IfErr result (λ f. f ≢ Failure.Output → out.new ≡ out.old) }
-    ensures front { IfErr result (λ f. f ≡ Failure.Output → IfSome (F.content files.old (image_name words.now)) (λ image. WritesFrontOf (loaded image) (O.written out.old) (O.written out.new))) }
+    ensures front { IfErr result (λ f. f ≡ Failure.Output → IfSome (F.content files.old (image_name words.now)) (λ image. IfSome (F.content files.old (journal_name words.now)) (λ journal. WritesFrontOf (loaded image) (loaded journal) (O.written out.old) (O.written out.new)))) }
     ensures same { (n : List ℕ) → F.content files.new n ≡ F.content files.old n }
 {
     let process = match accept(alloc, words, files) {
@@ -168,8 +168,8 @@ pub fn replay<F: Files, O: Sink, E: Sink>(
     err: &mut E,
 ) -> Status
     // Where it ran, what came to `out` is the text of one list of moves; that list is a run of the thread
-    // machine from the image's start, and the last line names its ending.
-    ensures ran { result ≡ Status.Ran → IfSome (F.content files.old (image_name words.now)) (λ image. WritesRunOf (loaded image) (O.written out.old) (O.written out.new)) }
+    // machine from the image's start under the journal, and the last line names its ending.
+    ensures ran { result ≡ Status.Ran → IfSome (F.content files.old (image_name words.now)) (λ image. IfSome (F.content files.old (journal_name words.now)) (λ journal. WritesRunOf (loaded image) (loaded journal) (O.written out.old) (O.written out.new))) }
     ensures accepted { result ≡ Status.Ran → IsJournal (F.content files.old (journal_name words.now)) }
     ensures kept { result ≡ Status.Ran → O.faults out.new ≡ O.faults out.old }
     ensures quiet { result ≡ Status.Ran → err.new ≡ err.old }
@@ -184,7 +184,7 @@ pub fn replay<F: Files, O: Sink, E: Sink>(
 
     // What stands in `out` afterwards.
     ensures nothing { result ≢ Status.Ran → result ≢ Status.WriteFault → out.new ≡ out.old }
-    ensures front { result ≡ Status.WriteFault → IfSome (F.content files.old (image_name words.now)) (λ image. WritesFrontOf (loaded image) (O.written out.old) (O.written out.new)) }
+    ensures front { result ≡ Status.WriteFault → IfSome (F.content files.old (image_name words.now)) (λ image. IfSome (F.content files.old (journal_name words.now)) (λ journal. WritesFrontOf (loaded image) (loaded journal) (O.written out.old) (O.written out.new))) }
 
     // Where all is accepted and nothing fails, it runs, or memory runs out.
     ensures complete { IsSmooth words.now (F.content files.old) (F.faults files.old) (F.faults files.new) (O.faults out.old) (O.faults out.new) → (result ≡ Status.Ran) ⊎ (result ≡ Status.NoMemory) }
