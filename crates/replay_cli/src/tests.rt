@@ -244,18 +244,28 @@ fn refused_entries(rt: HostRuntime) -> Result<(), Fail> {
 }
 
 #[test]
-fn a_signal_beyond_the_end(rt: HostRuntime) -> Result<(), Fail> {
+fn signals_from_outside(rt: HostRuntime) -> Result<(), Fail> {
     let alloc = rt.alloc();
+    // after more instructions than the run makes
+    let late = b"fsu-journal 1\n1000.0 sig 10\n";
     check(
         &rt,
         alloc,
-        &given(
-            &SMALLEST,
-            b"fsu-journal 1\n1000.0 sig 10\n",
-            Status::Ran,
-            SMALLEST_TEXT,
-            b"",
-        ),
+        &given(&SMALLEST, late, Status::Ran, SMALLEST_TEXT, b""),
+    )?;
+    // after two instructions, without a handler
+    let early = b"fsu-journal 1\n2.0 sig 10\n";
+    let killed = b"run 1\narrive 1 1 sig 10\ndeliver 1 10 1\nend killed 10\n";
+    check(
+        &rt,
+        alloc,
+        &given(&SMALLEST, early, Status::Ran, killed, b""),
+    )?;
+    let places = b"thread 1 ready pc 0x0001005c ra 0xffffffd0 sp 0x00410000\nend killed 10\n";
+    check_places(
+        &rt,
+        alloc,
+        &given(&SMALLEST, early, Status::Ran, places, b""),
     )
 }
 
