@@ -13,11 +13,12 @@ pub joined : (line a b mid new : List ℕ) → mid ≡ line ++ a → new ≡ mid
 joined line a b mid new e f = f ∙ ap (λ (x : List ℕ). x ++ b) e ∙ append_assoc line a b
 
 -- the text of a whole run's end was written
-pub tells_places : (image : Option (List ℕ)) (rules : Rules) (start now : Moment) (ending : Ending) (a b : Option (List ℕ)) (f g : ℕ)
-    → IfSome image (λ image. IsStartOf (loaded image) start) → rules ≡ default_rules → RunsToEnd rules start ending now
-    → WritesWhole a b f g (places_text now ending) → IfSome image (λ image. TellsPlacesOf (loaded image) a b)
-tells_places None rules start now ending a b f g is same ran w = tt
-tells_places (Some image) rules start now ending a b f g is same ran w = record {
+pub tells_places : (image journal : Option (List ℕ)) (rules : Rules) (start now : Moment) (ending : Ending) (a b : Option (List ℕ)) (f g : ℕ)
+    → IfSome image (λ image. IsStartOf (loaded image) start) → IfSome journal (λ journal. rules ≡ default_rules (loaded journal)) → RunsToEnd rules start ending now
+    → WritesWhole a b f g (places_text now ending) → IfSome image (λ image. IfSome journal (λ journal. TellsPlacesOf (loaded image) (loaded journal) a b))
+tells_places None journal rules start now ending a b f g is same ran w = tt
+tells_places (Some image) None rules start now ending a b f g is same ran w = tt
+tells_places (Some image) (Some journal) rules start now ending a b f g is same ran w = record {
   start = start;
   of_image = is;
   moves = ran.moves;
@@ -27,11 +28,12 @@ tells_places (Some image) rules start now ending a b f g is same ran w = record 
 }
 
 -- a front of the text of a whole run's end was written
-pub tells_front : (image : Option (List ℕ)) (rules : Rules) (start now : Moment) (ending : Ending) (a b : Option (List ℕ)) (f g : ℕ)
-    → IfSome image (λ image. IsStartOf (loaded image) start) → rules ≡ default_rules → RunsToEnd rules start ending now
-    → WritesFront a b f g (places_text now ending) → IfSome image (λ image. TellsFrontOf (loaded image) a b)
-tells_front None rules start now ending a b f g is same ran w = tt
-tells_front (Some image) rules start now ending a b f g is same ran w = record {
+pub tells_front : (image journal : Option (List ℕ)) (rules : Rules) (start now : Moment) (ending : Ending) (a b : Option (List ℕ)) (f g : ℕ)
+    → IfSome image (λ image. IsStartOf (loaded image) start) → IfSome journal (λ journal. rules ≡ default_rules (loaded journal)) → RunsToEnd rules start ending now
+    → WritesFront a b f g (places_text now ending) → IfSome image (λ image. IfSome journal (λ journal. TellsFrontOf (loaded image) (loaded journal) a b))
+tells_front None journal rules start now ending a b f g is same ran w = tt
+tells_front (Some image) None rules start now ending a b f g is same ran w = tt
+tells_front (Some image) (Some journal) rules start now ending a b f g is same ran w = record {
   start = start;
   of_image = is;
   moves = ran.moves;

@@ -3,7 +3,7 @@ use Rattle.std.specs.Prelude.{ℕ, ◌≡◌, ◌⊎◌, List, true, false, Opti
 use Rattle.elf_image.specs.Refusal.{first_refusal}
 use Rattle.replay_io.specs.Writing.{Rose, WritesWhole, WritesFront}
 use Rattle.replay_cli.specs.Words.{are_accepted, image_name, journal_name}
-use Rattle.replay_cli.specs.Journal.{first_bad}
+use Rattle.replay_cli.specs.Journal.{first_refused}
 use Rattle.replay_cli.specs.Failures.{status_of, line_of}
 use Rattle.replay_cli.specs.Headline.{loaded, memory_size}
 use Rattle.replay_cli.specs.declared.failure.Failure.{Failure}
@@ -15,7 +15,7 @@ abbrev pub IsImage : Option (List ℕ) → Type 0
 IsImage content = IfSome content (λ image. first_refusal (loaded image) memory_size ≡ None)
 
 abbrev pub IsJournal : Option (List ℕ) → Type 0
-IsJournal content = IfSome content (λ journal. first_bad (loaded journal) ≡ None)
+IsJournal content = IfSome content (λ journal. first_refused (loaded journal) ≡ None)
 
 -- the cause of a failure to load an image: of a name with this content and these counts of faults
 abbrev pub ImageCause : Option (List ℕ) → ℕ → ℕ → Failure → Type 0
@@ -27,7 +27,7 @@ ImageCause content before after failure = ⊥
 -- the cause of a failure to load a journal
 abbrev pub JournalCause : Option (List ℕ) → ℕ → ℕ → Failure → Type 0
 JournalCause content before after JournalFile = Rose before after
-JournalCause content before after (Journal refusal) = IfSome content (λ journal. first_bad (loaded journal) ≡ Some refusal)
+JournalCause content before after (Journal refusal) = IfSome content (λ journal. first_refused (loaded journal) ≡ Some refusal)
 JournalCause content before after Memory = Unit {0}
 JournalCause content before after failure = ⊥
 
@@ -42,7 +42,7 @@ Cause words content before after out_before out_after (Image refusal) =
 Cause words content before after out_before out_after JournalFile =
     (are_accepted words ≡ true) × IsImage (content (image_name words)) × Rose (before (journal_name words)) (after (journal_name words))
 Cause words content before after out_before out_after (Journal refusal) =
-    (are_accepted words ≡ true) × IsImage (content (image_name words)) × IfSome (content (journal_name words)) (λ journal. first_bad (loaded journal) ≡ Some refusal)
+    (are_accepted words ≡ true) × IsImage (content (image_name words)) × IfSome (content (journal_name words)) (λ journal. first_refused (loaded journal) ≡ Some refusal)
 Cause words content before after out_before out_after Output =
     (are_accepted words ≡ true) × IsImage (content (image_name words)) × IsJournal (content (journal_name words)) × Rose out_before out_after
 Cause words content before after out_before out_after Memory = are_accepted words ≡ true
@@ -67,7 +67,7 @@ pub record IsSmooth (words : List (List ℕ)) (content : List ℕ → Option (Li
   pub image_accepted : first_refusal (loaded image) memory_size ≡ None
   pub journal : List ℕ
   pub journal_told : content (journal_name words) ≡ Some journal
-  pub journal_accepted : first_bad (loaded journal) ≡ None
+  pub journal_accepted : first_refused (loaded journal) ≡ None
   pub image_read : Rose (before (image_name words)) (after (image_name words)) → ⊥
   pub journal_read : Rose (before (journal_name words)) (after (journal_name words)) → ⊥
   pub out_written : Rose out_before out_after → ⊥

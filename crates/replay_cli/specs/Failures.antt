@@ -3,8 +3,8 @@ use Rattle.std.specs.Prelude.{ℕ, List, [], ◌∷◌, ◌++◌, codes}
 use Rattle.elf_image.specs.declared.refusal.ImageRefusal.{ImageRefusal}
 use Rattle.elf_image.specs.declared.refusal.ImageRefusal.TheVariants.{TooLong, Short, Magic, Class, Order, Version, FileType, Machine, Flags, HeaderSize, SegmentCount, TableOutOfFile, Dynamic, SegmentOutOfFile, SizeAboveMemory, OutsideWindow, Entry}
 use Rattle.posix_model.specs.Lines.{line}
-use Rattle.replay_cli.specs.declared.journal.JournalRefusal.{JournalRefusal}
-use Rattle.replay_cli.specs.declared.journal.JournalRefusal.TheVariants.{TooLong as JournalTooLong, Header, Line}
+use Rattle.journal_text.specs.declared.refusal.JournalRefusal.{JournalRefusal}
+use Rattle.journal_text.specs.declared.refusal.JournalRefusal.TheVariants.{TooLong as JournalTooLong, Header, Line, Number, Signal, Order as JournalOrder, AfterEof, TooMany, NoMemory as JournalNoMemory}
 use Rattle.replay_cli.specs.declared.failure.Failure.{Failure}
 use Rattle.replay_cli.specs.declared.failure.Failure.TheVariants.{Words, ImageFile, JournalFile, Image, Journal, Output, Memory}
 use Rattle.replay_cli.specs.declared.failure.Status.{Status}
@@ -55,6 +55,12 @@ unfoldable pub journal_line : JournalRefusal → List ℕ
 journal_line JournalTooLong = line (codes ": journal refused: TooLong") []
 journal_line Header = line (codes ": journal refused: Header") []
 journal_line (Line number) = line (codes ": journal refused: Line") (number ∷ [])
+journal_line (Number number) = line (codes ": journal refused: Number") (number ∷ [])
+journal_line (Signal number) = line (codes ": journal refused: Signal") (number ∷ [])
+journal_line (JournalOrder number) = line (codes ": journal refused: Order") (number ∷ [])
+journal_line (AfterEof number) = line (codes ": journal refused: AfterEof") (number ∷ [])
+journal_line (TooMany number) = line (codes ": journal refused: TooMany") (number ∷ [])
+journal_line JournalNoMemory = line (codes ": journal refused: NoMemory") []
 
 -- the line of a failure, without the name of the program
 unfoldable pub cause_line : Failure → List ℕ

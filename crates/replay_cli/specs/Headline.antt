@@ -1,6 +1,6 @@
--- What a replay writes: the text of a run from the image.
+-- What a replay writes: the text of a run from the image, under the journal.
 use Rattle.std.specs.Prelude.{ℕ, ◌≡◌, List, take, Option, None}
-use Rattle.journal_text.specs.Contents.{empty}
+use Rattle.journal_text.specs.Refusals.{entries_of}
 use Rattle.elf_image.specs.Layout.{IsStart, segments_of, e_entry}
 use Rattle.elf_image.specs.Refusal.{first_refusal}
 use Rattle.replay_io.specs.Writing.{Appended, AppendedFront}
@@ -23,9 +23,9 @@ memory_size = 4194304
 abbrev pub default_settings : Settings
 default_settings = record { budget = 1000000; quantum = 4 }
 
--- the rules of every run yet: these settings, and the journal without an entry
-abbrev pub default_rules : Rules
-default_rules = record { settings = default_settings; journal = empty }
+-- the rules of a run under a journal of these bytes: these settings, and the entries that the bytes spell
+abbrev pub default_rules : List ℕ → Rules
+default_rules journal = record { settings = default_settings; journal = entries_of journal }
 
 -- a run at the start of the machine, over the memory of an accepted image
 pub record IsStartOf (image : List ℕ) (start : Moment) : Type 0 where
@@ -34,20 +34,20 @@ pub record IsStartOf (image : List ℕ) (start : Moment) : Type 0 where
   pub holds : IsStart image (segments_of image) memory_size memory
   pub begins : start ≡ machine.start memory (e_entry image)
 
--- the text of one whole run from an image came after what was written before; its last line names the ending
-pub record WritesRunOf (image : List ℕ) (before after : Option (List ℕ)) : Type 0 where
+-- the text of one whole run from an image, under a journal, came after what was written before; its last line names the ending
+pub record WritesRunOf (image journal : List ℕ) (before after : Option (List ℕ)) : Type 0 where
   pub start : Moment
   pub of_image : IsStartOf image start
   pub ending : Ending
   pub trace : List ℕ
-  pub whole : IsWholeText default_rules start ending trace
+  pub whole : IsWholeText (default_rules journal) start ending trace
   pub told : Appended before after trace
 
--- a front of the text of one whole run from an image came after what was written before
-pub record WritesFrontOf (image : List ℕ) (before after : Option (List ℕ)) : Type 0 where
+-- a front of the text of one whole run from an image, under a journal, came after what was written before
+pub record WritesFrontOf (image journal : List ℕ) (before after : Option (List ℕ)) : Type 0 where
   pub start : Moment
   pub of_image : IsStartOf image start
   pub ending : Ending
   pub trace : List ℕ
-  pub whole : IsWholeText default_rules start ending trace
+  pub whole : IsWholeText (default_rules journal) start ending trace
   pub told : AppendedFront before after trace

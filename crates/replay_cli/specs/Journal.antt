@@ -1,16 +1,24 @@
--- The journal that is accepted: its header alone, as yet (this project's own format).
-use Rattle.std.specs.Prelude.{ℕ, List, codes, length, not, nat_lt, nat_eq, Option, Some, None, if◌then◌else◌}
-use Rattle.std.specs.List.{starts_with}
-use Rattle.replay_cli.specs.declared.journal.JournalRefusal.{JournalRefusal}
-use Rattle.replay_cli.specs.declared.journal.JournalRefusal.TheVariants.{TooLong, Header, Line}
+-- Which journals are accepted (this project's own format): those whose entries are all signals, as yet.
+use Rattle.std.specs.Prelude.{ℕ, ◌+◌, Bool, true, false, List, [], ◌∷◌, if◌then◌else◌, Option, Some, None}
+use Rattle.journal_text.specs.Refusals.{first_bad, entries_of, ◌orelse◌}
+use Rattle.journal_text.specs.declared.entry.Entry.{Entry}
+use Rattle.journal_text.specs.declared.entry.What.{What}
+use Rattle.journal_text.specs.declared.entry.What.TheVariants.{Sig, Tick, Data, Eof}
+use Rattle.journal_text.specs.declared.refusal.JournalRefusal.{JournalRefusal}
+use Rattle.journal_text.specs.declared.refusal.JournalRefusal.TheVariants.{Line}
 
-abbrev pub header : List ℕ
-header = codes "fsu-journal 1\n"
+-- an event is a signal
+abbrev pub is_signal : What → Bool
+is_signal (Sig s) = true
+is_signal Tick = false
+is_signal (Data start len) = false
+is_signal Eof = false
 
--- the first refusal of a journal: of too many bytes, of another first line, and of any byte after it
-unfoldable pub first_bad : List ℕ → Option JournalRefusal
-first_bad bytes =
-    if nat_lt 16777216 (length bytes) then Some TooLong
-    else if not (starts_with nat_eq bytes header) then Some Header
-    else if nat_lt 14 (length bytes) then Some (Line 2)
-    else None
+-- the refusal of the first of some entries that is no signal, by the number of its line; the first stands on this line
+abbrev pub first_unbuilt : ℕ → List Entry → Option JournalRefusal
+first_unbuilt number [] = None
+first_unbuilt number (e ∷ es) = if is_signal e.what then first_unbuilt (number + 1) es else Some (Line number)
+
+-- the first refusal of a journal: of its text, and else of an entry that is no signal; the header is line 1
+unfoldable pub first_refused : List ℕ → Option JournalRefusal
+first_refused bytes = first_bad bytes orelse first_unbuilt 2 (entries_of bytes).entries

@@ -96,20 +96,20 @@ fault_text now Budget = []
 unfoldable pub places_text : Moment → Ending → List ℕ
 places_text now ending = place_lines now.state ++ (fault_text now ending ++ end_text now ending)
 
--- where the threads stand at the end of the whole run from an image came after what was written before
-pub record TellsPlacesOf (image : List ℕ) (was now : Option (List ℕ)) : Type 0 where
+-- where the threads stand at the end of a whole run from an image, under a journal, came after what was written before
+pub record TellsPlacesOf (image journal : List ℕ) (was now : Option (List ℕ)) : Type 0 where
   pub start : Moment
   pub of_image : IsStartOf image start
   pub moves : List Move
   pub ending : Ending
-  pub whole : IsWholeRun default_rules start moves ending
-  pub told : Appended was now (places_text (after default_rules start moves) ending)
+  pub whole : IsWholeRun (default_rules journal) start moves ending
+  pub told : Appended was now (places_text (after (default_rules journal) start moves) ending)
 
 -- a front of that came after what was written before
-pub record TellsFrontOf (image : List ℕ) (was now : Option (List ℕ)) : Type 0 where
+pub record TellsFrontOf (image journal : List ℕ) (was now : Option (List ℕ)) : Type 0 where
   pub start : Moment
   pub of_image : IsStartOf image start
   pub moves : List Move
   pub ending : Ending
-  pub whole : IsWholeRun default_rules start moves ending
-  pub told : AppendedFront was now (places_text (after default_rules start moves) ending)
+  pub whole : IsWholeRun (default_rules journal) start moves ending
+  pub told : AppendedFront was now (places_text (after (default_rules journal) start moves) ending)

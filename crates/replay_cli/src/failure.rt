@@ -2,8 +2,8 @@ ghost use Rattle.std.specs.Prelude.{◌≡◌};
 ghost use Rattle.replay_io.specs.Writing.{Writes};
 ghost use Rattle.replay_cli.specs.Failures.{code_of, status_of, cause_line, line_of, image_line, journal_line};
 
-use crate::journal::JournalRefusal;
 use elf_image::ImageRefusal;
+use journal_text::JournalRefusal;
 use replay_io::{Sink, SinkFailed};
 use trace_text::put_line;
 
@@ -142,5 +142,31 @@ fn put_journal_line<E: Sink>(refusal: JournalRefusal, err: &mut E) -> Result<(),
             &[u64::from(number)],
             err,
         ),
+        JournalRefusal::Number(number) => put_line(
+            b": journal refused: Number",
+            &[u64::from(number)],
+            err,
+        ),
+        JournalRefusal::Signal(number) => put_line(
+            b": journal refused: Signal",
+            &[u64::from(number)],
+            err,
+        ),
+        JournalRefusal::Order(number) => put_line(
+            b": journal refused: Order",
+            &[u64::from(number)],
+            err,
+        ),
+        JournalRefusal::AfterEof(number) => put_line(
+            b": journal refused: AfterEof",
+            &[u64::from(number)],
+            err,
+        ),
+        JournalRefusal::TooMany(number) => put_line(
+            b": journal refused: TooMany",
+            &[u64::from(number)],
+            err,
+        ),
+        JournalRefusal::NoMemory => put_line(b": journal refused: NoMemory", &[], err),
     }
 }

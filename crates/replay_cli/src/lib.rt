@@ -11,7 +11,6 @@ mod places;
 mod top;
 
 pub use failure::{Failure, Status};
-pub use journal::JournalRefusal;
 pub use places::tell_places;
 pub use top::replay;
 

@@ -124,11 +124,11 @@ fn attempt_places<F: Files, O: Sink>(
 ) -> Result<(), Failure>
     ensures words { OnOk result (are_accepted words.now ≡ true) }
     ensures journal { OnOk result (IsJournal (F.content files.old (journal_name words.now))) }
-    ensures ran { OnOk result (IfSome (F.content files.old (image_name words.now)) (λ image. TellsPlacesOf (loaded image) (O.written out.old) (O.written out.new))) }
+    ensures ran { OnOk result (IfSome (F.content files.old (image_name words.now)) (λ image. IfSome (F.content files.old (journal_name words.now)) (λ journal. TellsPlacesOf (loaded image) (loaded journal) (O.written out.old) (O.written out.new)))) }
     ensures kept { OnOk result (O.faults out.new ≡ O.faults out.old) }
     ensures cause { IfErr result (Cause words.now (F.content files.old) (F.faults files.old) (F.faults files.new) (O.faults out.old) (O.faults out.new)) }
     ensures nothing { IfErr result (λ f. f ≢ Failure.Output → out.new ≡ out.old) }
-    ensures front { IfErr result (λ f. f ≡ Failure.Output → IfSome (F.content files.old (image_name words.now)) (λ image. TellsFrontOf (loaded image) (O.written out.old) (O.written out.new))) }
+    ensures front { IfErr result (λ f. f ≡ Failure.Output → IfSome (F.content files.old (image_name words.now)) (λ image. IfSome (F.content files.old (journal_name words.now)) (λ journal. TellsFrontOf (loaded image) (loaded journal) (O.written out.old) (O.written out.new)))) }
 {
     let mut process = match accept(alloc, words, files) {
         Ok(process) => process,
@@ -152,9 +152,10 @@ pub fn tell_places<F: Files, O: Sink, E: Sink>(
     out: &mut O,
     err: &mut E,
 ) -> Status
-    // Where it ran, a whole run of the machine from the image's start leads to the moment whose threads are told, and
-    // ends as is told. There is one such run, so it is the one that `replay` makes.
-    ensures ran { result ≡ Status.Ran → IfSome (F.content files.old (image_name words.now)) (λ image. TellsPlacesOf (loaded image) (O.written out.old) (O.written out.new)) }
+    // Where it ran, a whole run of the machine from the image's start, under the journal, leads to the moment whose
+    // threads are told, and ends as is told. Under a journal without entries there is one such run, so it is the one
+    // that `replay` makes.
+    ensures ran { result ≡ Status.Ran → IfSome (F.content files.old (image_name words.now)) (λ image. IfSome (F.content files.old (journal_name words.now)) (λ journal. TellsPlacesOf (loaded image) (loaded journal) (O.written out.old) (O.written out.new))) }
     ensures accepted { result ≡ Status.Ran → IsJournal (F.content files.old (journal_name words.now)) }
     ensures kept { result ≡ Status.Ran → O.faults out.new ≡ O.faults out.old }
     ensures quiet { result ≡ Status.Ran → err.new ≡ err.old }
@@ -165,7 +166,7 @@ pub fn tell_places<F: Files, O: Sink, E: Sink>(
 
     // What stands in `out` afterwards.
     ensures nothing { result ≢ Status.Ran → result ≢ Status.WriteFault → out.new ≡ out.old }
-    ensures front { result ≡ Status.WriteFault → IfSome (F.content files.old (image_name words.now)) (λ image. TellsFrontOf (loaded image) (O.written out.old) (O.written out.new)) }
+    ensures front { result ≡ Status.WriteFault → IfSome (F.content files.old (image_name words.now)) (λ image. IfSome (F.content files.old (journal_name words.now)) (λ journal. TellsFrontOf (loaded image) (loaded journal) (O.written out.old) (O.written out.new))) }
 
     // Where all is accepted and nothing fails, it runs, or memory runs out.
     ensures complete { IsSmooth words.now (F.content files.old) (F.faults files.old) (F.faults files.new) (O.faults out.old) (O.faults out.new) → (result ≡ Status.Ran) ⊎ (result ≡ Status.NoMemory) }

@@ -181,6 +181,95 @@ fn words_and_journals(rt: HostRuntime) -> Result<(), Fail> {
 }
 
 #[test]
+fn refused_lines(rt: HostRuntime) -> Result<(), Fail> {
+    let alloc = rt.alloc();
+    let journals: [(&[u8], &[u8]); 4] = [
+        // a leading zero
+        (
+            b"fsu-journal 1\n01.0 tick\n",
+            b"fsu_replay: journal refused: Number 2\n",
+        ),
+        // no last line feed
+        (
+            b"fsu-journal 1\n1.0 tick",
+            b"fsu_replay: journal refused: Line 2\n",
+        ),
+        // a signal of job control
+        (
+            b"fsu-journal 1\n1.0 sig 19\n",
+            b"fsu_replay: journal refused: Signal 2\n",
+        ),
+        // half a byte
+        (
+            b"fsu-journal 1\n1.0 data 6\n",
+            b"fsu_replay: journal refused: Line 2\n",
+        ),
+    ];
+    for (journal, err) in journals {
+        check(
+            &rt,
+            alloc,
+            &given(&SMALLEST, journal, Status::Journal, b"", err),
+        )?;
+    }
+    Ok(())
+}
+
+#[test]
+fn refused_entries(rt: HostRuntime) -> Result<(), Fail> {
+    let alloc = rt.alloc();
+    let journals: [(&[u8], &[u8]); 3] = [
+        (
+            b"fsu-journal 1\n3.0 sig 10\n2.0 tick\n",
+            b"fsu_replay: journal refused: Order 3\n",
+        ),
+        (
+            b"fsu-journal 1\n0.0 eof\n1.0 data 00\n",
+            b"fsu_replay: journal refused: AfterEof 3\n",
+        ),
+        // a journal, whose tick is not presented yet
+        (
+            b"fsu-journal 1\n1.0 sig 10\n2.0 tick\n",
+            b"fsu_replay: journal refused: Line 3\n",
+        ),
+    ];
+    for (journal, err) in journals {
+        check(
+            &rt,
+            alloc,
+            &given(&SMALLEST, journal, Status::Journal, b"", err),
+        )?;
+    }
+    Ok(())
+}
+
+#[test]
+fn signals_from_outside(rt: HostRuntime) -> Result<(), Fail> {
+    let alloc = rt.alloc();
+    // after more instructions than the run makes
+    let late = b"fsu-journal 1\n1000.0 sig 10\n";
+    check(
+        &rt,
+        alloc,
+        &given(&SMALLEST, late, Status::Ran, SMALLEST_TEXT, b""),
+    )?;
+    // after two instructions, without a handler
+    let early = b"fsu-journal 1\n2.0 sig 10\n";
+    let killed = b"run 1\narrive 1 1 sig 10\ndeliver 1 10 1\nend killed 10\n";
+    check(
+        &rt,
+        alloc,
+        &given(&SMALLEST, early, Status::Ran, killed, b""),
+    )?;
+    let places = b"thread 1 ready pc 0x0001005c ra 0xffffffd0 sp 0x00410000\nend killed 10\n";
+    check_places(
+        &rt,
+        alloc,
+        &given(&SMALLEST, early, Status::Ran, places, b""),
+    )
+}
+
+#[test]
 fn endings(rt: HostRuntime) -> Result<(), Fail> {
     let alloc = rt.alloc();
     // a jump by 2

@@ -1,18 +1,22 @@
 ghost use Rattle.std.specs.Prelude.{◌≡◌, ◌≢◌, ◌<◌, ◌≤◌, ◌⊎◌, ◌↔◌, ◌+◌, true, false, [], codes, length, slice_index_or, take, IfSome, IfOk, IfErr, OnOk, List, ℕ, Option, Some, None};
+ghost use Rattle.journal_text.specs.Refusals.{entries_of};
+ghost use Rattle.journal_text.specs.Valid as valid;
 ghost use Rattle.elf_image.specs.Refusal.{first_refusal};
 ghost use Rattle.replay_io.specs.Writing.{Rose};
 ghost use Rattle.posix_model.specs.Start as machine;
+ghost use Rattle.dispatcher.specs.Arriving.{AreSignals};
 ghost use Rattle.process_engine.specs.Engine.{moment_of, position_of};
 ghost use Rattle.replay_cli.specs.Words.{are_accepted, image_name, journal_name};
-ghost use Rattle.replay_cli.specs.Journal.{first_bad};
+ghost use Rattle.replay_cli.specs.Journal.{first_refused};
 ghost use Rattle.replay_cli.specs.Failures.{status_of};
 ghost use Rattle.replay_cli.specs.Headline.{loaded, memory_size, default_rules, IsStartOf, WritesRunOf, WritesFrontOf};
 ghost use Rattle.replay_cli.specs.Causes.{IsImage, IsJournal, ImageCause, JournalCause, Cause, Tells, Fails, IsSmooth};
 
 use crate::accepted::are_accepted;
 use crate::failure::{Failure, Status};
-use crate::journal::check_journal;
+use crate::journal::read_accepted;
 use elf_image::EntryPoint;
+use journal_text::{Journal, JournalRefusal};
 use posix_model::Settings;
 use process_engine::{Process, WriteFault};
 use replay_io::{Files, LoadRefusal, Sink, Words};
@@ -72,21 +76,25 @@ fn accept_image<F: Files>(alloc: Global, name: &str, files: &mut F) -> Result<Pr
     }
 }
 
-/// Whether the journal is accepted, or why it is not.
-fn accept_journal<F: Files>(alloc: Global, name: &str, files: &mut F) -> Result<(), Failure>
-    ensures ok { OnOk result (IsJournal (F.content files.old name.now)) }
+/// The journal that a name holds, or why it is not accepted.
+fn accept_journal<F: Files>(alloc: Global, name: &str, files: &mut F) -> Result<Journal, Failure>
+    ensures accepted { OnOk result (IsJournal (F.content files.old name.now)) }
+    ensures entries { IfOk result (λ j. IfSome (F.content files.old name.now) (λ journal. j ≡ entries_of (loaded journal))) }
+    ensures journal { IfOk result valid.IsJournal }
+    ensures signals { IfOk result (λ j. AreSignals j.entries) }
     ensures cause { IfErr result (JournalCause (F.content files.old name.now) (F.faults files.old name.now) (F.faults files.new name.now)) }
     ensures same { (n : List ℕ) → F.content files.new n ≡ F.content files.old n }
     ensures later { (n : List ℕ) → F.faults files.old n ≤ F.faults files.new n }
 {
-    let journal = match load_file(alloc, name, files) {
+    let bytes = match load_file(alloc, name, files) {
         Ok(bytes) => bytes,
         Err(LoadRefusal::Failed) => return Err(Failure::JournalFile),
         Err(LoadRefusal::NoMemory) => return Err(Failure::Memory),
     };
-    match check_journal(&journal) {
-        None => Ok(()),
-        Some(refusal) => Err(Failure::Journal(refusal)),
+    match read_accepted(alloc, &bytes) {
+        Ok(journal) => Ok(journal),
+        Err(JournalRefusal::NoMemory) => Err(Failure::Memory),
+        Err(refusal) => Err(Failure::Journal(refusal)),
     }
 }
 
@@ -101,7 +109,7 @@ pub(crate) fn accept<F: Files>(
     ensures journal { OnOk result (IsJournal (F.content files.old (journal_name words.now))) }
     ensures start { IfOk result (λ p. IfSome (F.content files.old (image_name words.now)) (λ image. IsStartOf (loaded image) (moment_of p))) }
     ensures at_rest { IfOk result (λ p. (position_of p).telling ≡ None) }
-    ensures rules { IfOk result (λ p. p.rules ≡ default_rules) }
+    ensures rules { IfOk result (λ p. IfSome (F.content files.old (journal_name words.now)) (λ journal. p.rules ≡ default_rules (loaded journal))) }
     ensures cause { IfErr result (λ f. (a b : ℕ) → Cause words.now (F.content files.old) (F.faults files.old) (F.faults files.new) a b f) }
     ensures early { IfErr result (λ f. f ≢ Failure.Output) }
     ensures same { (n : List ℕ) → F.content files.new n ≡ F.content files.old n }
@@ -113,11 +121,11 @@ pub(crate) fn accept<F: Files>(
         Ok(program) => program,
         Err(failure) => return Err(failure),
     };
-    match accept_journal(alloc, words.word(1), files) {
-        Ok(()) => {}
+    let journal = match accept_journal(alloc, words.word(1), files) {
+        Ok(journal) => journal,
         Err(failure) => return Err(failure),
-    }
-    match Process::new(alloc, program.mem, program.entry, SETTINGS) {
+    };
+    match Process::new(alloc, program.mem, program.entry, journal, SETTINGS) {
         Ok(process) => Ok(process),
         Err(NoMemory) => Err(Failure::Memory),
     }
@@ -132,11 +140,11 @@ fn attempt<F: Files, O: Sink>(
 ) -> Result<(), Failure>
     ensures words { OnOk result (are_accepted words.now ≡ true) }
     ensures journal { OnOk result (IsJournal (F.content files.old (journal_name words.now))) }
-    ensures ran { OnOk result (IfSome (F.content files.old (image_name words.now)) (λ image. WritesRunOf (loaded image) (O.written out.old) (O.written out.new))) }
+    ensures ran { OnOk result (IfSome (F.content files.old (image_name words.now)) (λ image. IfSome (F.content files.old (journal_name words.now)) (λ journal. WritesRunOf (loaded image) (loaded journal) (O.written out.old) (O.written out.new)))) }
     ensures kept { OnOk result (O.faults out.new ≡ O.faults out.old) }
     ensures cause { IfErr result (Cause words.now (F.content files.old) (F.faults files.old) (F.faults files.new) (O.faults out.old) (O.faults out.new)) }
     ensures nothing { IfErr result (λ f. f ≢ Failure.Output → out.new ≡ out.old) }
-    ensures front { IfErr result (λ f. f ≡ Failure.Output → IfSome (F.content files.old (image_name words.now)) (λ image. WritesFrontOf (loaded image) (O.written out.old) (O.written out.new))) }
+    ensures front { IfErr result (λ f. f ≡ Failure.Output → IfSome (F.content files.old (image_name words.now)) (λ image. IfSome (F.content files.old (journal_name words.now)) (λ journal. WritesFrontOf (loaded image) (loaded journal) (O.written out.old) (O.written out.new)))) }
     ensures same { (n : List ℕ) → F.content files.new n ≡ F.content files.old n }
 {
     let process = match accept(alloc, words, files) {
@@ -160,8 +168,8 @@ pub fn replay<F: Files, O: Sink, E: Sink>(
     err: &mut E,
 ) -> Status
     // Where it ran, what came to `out` is the text of one list of moves; that list is a run of the thread
-    // machine from the image's start, and the last line names its ending.
-    ensures ran { result ≡ Status.Ran → IfSome (F.content files.old (image_name words.now)) (λ image. WritesRunOf (loaded image) (O.written out.old) (O.written out.new)) }
+    // machine from the image's start under the journal, and the last line names its ending.
+    ensures ran { result ≡ Status.Ran → IfSome (F.content files.old (image_name words.now)) (λ image. IfSome (F.content files.old (journal_name words.now)) (λ journal. WritesRunOf (loaded image) (loaded journal) (O.written out.old) (O.written out.new))) }
     ensures accepted { result ≡ Status.Ran → IsJournal (F.content files.old (journal_name words.now)) }
     ensures kept { result ≡ Status.Ran → O.faults out.new ≡ O.faults out.old }
     ensures quiet { result ≡ Status.Ran → err.new ≡ err.old }
@@ -171,12 +179,12 @@ pub fn replay<F: Files, O: Sink, E: Sink>(
     ensures words { (result ≡ Status.Words) ↔ (are_accepted words.now ≡ false) }
     ensures read { result ≡ Status.ReadFault → Rose (F.faults files.old (image_name words.now)) (F.faults files.new (image_name words.now)) ⊎ (IsImage (F.content files.old (image_name words.now)) × Rose (F.faults files.old (journal_name words.now)) (F.faults files.new (journal_name words.now))) }
     ensures image { result ≡ Status.Image → IfSome (F.content files.old (image_name words.now)) (λ image. first_refusal (loaded image) memory_size ≢ None) }
-    ensures journal { result ≡ Status.Journal → IfSome (F.content files.old (journal_name words.now)) (λ journal. first_bad (loaded journal) ≢ None) }
+    ensures journal { result ≡ Status.Journal → IfSome (F.content files.old (journal_name words.now)) (λ journal. first_refused (loaded journal) ≢ None) }
     ensures write { result ≡ Status.WriteFault → Rose (O.faults out.old) (O.faults out.new) }
 
     // What stands in `out` afterwards.
     ensures nothing { result ≢ Status.Ran → result ≢ Status.WriteFault → out.new ≡ out.old }
-    ensures front { result ≡ Status.WriteFault → IfSome (F.content files.old (image_name words.now)) (λ image. WritesFrontOf (loaded image) (O.written out.old) (O.written out.new)) }
+    ensures front { result ≡ Status.WriteFault → IfSome (F.content files.old (image_name words.now)) (λ image. IfSome (F.content files.old (journal_name words.now)) (λ journal. WritesFrontOf (loaded image) (loaded journal) (O.written out.old) (O.written out.new))) }
 
     // Where all is accepted and nothing fails, it runs, or memory runs out.
     ensures complete { IsSmooth words.now (F.content files.old) (F.faults files.old) (F.faults files.new) (O.faults out.old) (O.faults out.new) → (result ≡ Status.Ran) ⊎ (result ≡ Status.NoMemory) }
