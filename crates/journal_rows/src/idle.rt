@@ -1,10 +1,11 @@
 //! Programs all of whose threads wait while a journal has entries: then the next entry comes alone and at once, however
 //! far its place is. Each has the text that the rules of the machine give it. A call is eleven instructions, and one that
-//! is made again is one. Calls: 286 sets a signal's handler, 287 changes the mask. Bit 10 of a set is 1024.
+//! is made again is one. Calls: 286 sets a signal's handler, 287 changes the mask. Bit 10 of a set is 1024,
+//! bit 15 is 32,768.
 
 use std::test::Fail;
 use workload_gen::program::Item::{At, Ret, Sys};
-use workload_gen::program::{END, Item, JournalRow, SELF, first_other_under};
+use workload_gen::program::{END, Item, JournalRow, SELF, YIELD, first_other_under};
 
 /// A thread that waits for a mutex that it has, and a handler of signal 10 that lets it wait again.
 const STUCK: &[Item] = &[
@@ -284,6 +285,48 @@ call 2 276 0 0 0 0 = block\n\
 arrive 2 1 sig 15\n\
 deliver 1 15 1\n\
 end killed 15\n",
+    },
+    // thread 2 is interrupted in its wait for a condition; while it waits to have its mutex back it takes no signal, not
+    // even one whose default would end the process, and thread 1 blocks them
+    JournalRow {
+        items: &[
+            Sys(274, [0, 0, 0, 0]),
+            Sys(280, [0, 0, 0, 0]),
+            Sys(286, [10, 66_016, 0, 0]),
+            Sys(256, [66_064, 0, 131_072, 0]),
+            Sys(287, [0, 33_792, 0, 0]),
+            YIELD,
+            Sys(276, [0, 0, 0, 0]),
+            Sys(258, [2, 0, 0, 0]),
+            END,
+            At(66_016),
+            SELF,
+            Ret,
+            At(66_064),
+            Sys(276, [0, 0, 0, 0]),
+            Sys(282, [0, 0, 0, 0]),
+        ],
+        entries: b"500000.0 sig 10\n500000.0 sig 10\n500000.0 sig 15\n",
+        text: b"run 1\n\
+call 1 274 0 0 0 0 = 0 0\n\
+call 1 280 0 0 0 0 = 0 0\n\
+call 1 286 10 66016 0 0 = 0 0\n\
+call 1 256 66064 0 131072 0 = 0 2\n\
+call 1 287 0 33792 0 0 = 0 0\n\
+call 1 261 0 0 0 0 = 0 0\n\
+run 2\n\
+call 2 276 0 0 0 0 = 0 0\n\
+call 2 282 0 0 0 0 = block\n\
+run 1\n\
+call 1 276 0 0 0 0 = 0 0\n\
+call 1 258 2 0 0 0 = block\n\
+arrive 1 1 sig 10\n\
+interrupt 2 10 1\n\
+arrive 2 1 sig 10\n\
+arrive 3 1 sig 15\n\
+left 10 2\n\
+left 15 1\n\
+end idle\n",
     },
 ];
 
