@@ -463,8 +463,13 @@ end budget\n",
 ];
 
 #[test]
-fn entries_at_and_within_a_call(rt: HostRuntime) -> Result<(), Fail> {
+fn entries_at_a_call(rt: HostRuntime) -> Result<(), Fail> {
     assert_eq!(rt; first_other_under(rt.alloc(), AT_A_CALL)?, None);
+    Ok(())
+}
+
+#[test]
+fn entries_within_a_call(rt: HostRuntime) -> Result<(), Fail> {
     assert_eq!(rt; first_other_under(rt.alloc(), WITHIN_A_CALL)?, None);
     Ok(())
 }
