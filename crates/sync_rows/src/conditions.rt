@@ -4,7 +4,7 @@
 
 use std::test::Fail;
 use workload_gen::program::Item::{At, Sys, Word};
-use workload_gen::program::{END, Item, Row, first_other, image_of, output_of};
+use workload_gen::program::{END, HEADER, Item, Row, first_other, image_of, output_of};
 
 /// What the calls answer, and who is woken.
 const WOKEN: &[Row<'static>] = &[
@@ -478,7 +478,7 @@ fn conditions_wake(rt: HostRuntime) -> Result<(), Fail> {
 fn a_bounded_buffer_loses_nothing(rt: HostRuntime) -> Result<(), Fail> {
     let alloc = rt.alloc();
     let image = image_of(alloc, BOUNDED_BUFFER)?;
-    let out = output_of(alloc, &image)?;
+    let out = output_of(alloc, &image, HEADER)?;
     let text = out.bytes();
     // 1 + 2 + 3 + 100 + 101 + 102 is 0x135
     assert!(rt;

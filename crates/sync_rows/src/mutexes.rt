@@ -4,7 +4,7 @@
 
 use std::test::Fail;
 use workload_gen::program::Item::{At, Sys, Word};
-use workload_gen::program::{END, Row, first_other, image_of, output_of};
+use workload_gen::program::{END, HEADER, Row, first_other, image_of, output_of};
 
 /// What a lock, a trylock, an unlock and a destroying answer.
 const ANSWERS: &[Row<'static>] = &[
@@ -269,7 +269,7 @@ fn a_recursive_mutex_counts_65535_locks(rt: HostRuntime) -> Result<(), Fail> {
         text.extend_from_slice(b"call 1 276 0 0 0 0 = 0 0\n")?;
     }
     text.extend_from_slice(b"call 1 276 0 0 0 0 = 11 0\ncall 1 93 0 0 0 0 = end\nend exit 0\n")?;
-    let out = output_of(alloc, &image)?;
+    let out = output_of(alloc, &image, HEADER)?;
     assert!(rt; out.bytes() == text.as_slice());
     Ok(())
 }

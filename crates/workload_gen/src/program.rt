@@ -1,4 +1,4 @@
-//! Programs of a few items, and the replay of one under the journal without entries.
+//! Programs of a few items, and the replay of one under a journal.
 
 use crate::{sheet, sys_words};
 use replay_cli::{Status, replay};
@@ -28,10 +28,21 @@ pub const YIELD: Item = Item::Sys(261, [0, 0, 0, 0]);
 /// The exit of the process with 0.
 pub const END: Item = Item::Sys(93, [0, 0, 0, 0]);
 
+/// The line with which each journal begins; alone it is the journal without entries.
+pub const HEADER: &[u8] = b"fsu-journal 1\n";
+
 /// A row: a program, item by item, and the text of its run under the journal of the header alone.
 #[derive(Clone, Copy)]
 pub struct Row<'a> {
     pub items: &'a [Item],
+    pub text: &'a [u8],
+}
+
+/// A row with entries: a program, the lines of a journal after its header, and the text of the run under that journal.
+#[derive(Clone, Copy)]
+pub struct JournalRow<'a> {
+    pub items: &'a [Item],
+    pub entries: &'a [u8],
     pub text: &'a [u8],
 }
 
@@ -58,15 +69,23 @@ pub fn image_of(alloc: Global, items: &[Item]) -> Result<Vec<u8>, Fail> {
     Ok(sheet(alloc, &code)?)
 }
 
-/// Replays an image under the journal of the header alone; the sink with its text. It is an error where the replay
-/// does not run, and where memory ran out.
-pub fn output_of(alloc: Global, image: &[u8]) -> Result<MemSink, Fail> {
+/// The journal with these lines of entries.
+fn journal_of(alloc: Global, entries: &[u8]) -> Result<Vec<u8>, Fail> {
+    let mut journal = Vec::new(alloc);
+    journal.extend_from_slice(HEADER)?;
+    journal.extend_from_slice(entries)?;
+    Ok(journal)
+}
+
+/// Replays an image under a journal; the sink with its text. It is an error where the replay does not run, and where
+/// memory ran out.
+pub fn output_of(alloc: Global, image: &[u8], journal: &[u8]) -> Result<MemSink, Fail> {
     let mut words = Words::new(alloc);
     words.push("image")?;
     words.push("journal")?;
     let mut files = MemFiles::new(alloc, &[])?;
     files.add("image", image)?;
-    files.add("journal", b"fsu-journal 1\n")?;
+    files.add("journal", journal)?;
     let mut out = MemSink::new(alloc, 2_000_000, &[])?;
     let mut err = MemSink::new(alloc, 4096, &[])?;
     match replay(alloc, &words, &mut files, &mut out, &mut err) {
@@ -75,12 +94,28 @@ pub fn output_of(alloc: Global, image: &[u8]) -> Result<MemSink, Fail> {
     }
 }
 
+/// Whether the replay of a program under a journal has this text.
+fn has_text(alloc: Global, items: &[Item], journal: &[u8], text: &[u8]) -> Result<bool, Fail> {
+    let image = image_of(alloc, items)?;
+    let out = output_of(alloc, &image, journal)?;
+    Ok(out.bytes() == text)
+}
+
 /// The first row, from 0, whose replay has another text; None where each has its own.
 pub fn first_other(alloc: Global, rows: &[Row<'_>]) -> Result<Option<usize>, Fail> {
     for (index, row) in rows.iter().enumerate() {
-        let image = image_of(alloc, row.items)?;
-        let out = output_of(alloc, &image)?;
-        if out.bytes() != row.text {
+        if !has_text(alloc, row.items, HEADER, row.text)? {
+            return Ok(Some(index));
+        }
+    }
+    Ok(None)
+}
+
+/// The first row with entries, from 0, whose replay has another text; None where each has its own.
+pub fn first_other_under(alloc: Global, rows: &[JournalRow<'_>]) -> Result<Option<usize>, Fail> {
+    for (index, row) in rows.iter().enumerate() {
+        let journal = journal_of(alloc, row.entries)?;
+        if !has_text(alloc, row.items, &journal, row.text)? {
             return Ok(Some(index));
         }
     }
