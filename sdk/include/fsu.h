@@ -173,8 +173,7 @@ FSU_INLINE int32_t fsu_read(uint32_t descriptor, void *bytes, uint32_t length)
     return (int32_t)fsu_call(63, descriptor, (uintptr_t)bytes, length, 0).error;
 }
 
-/* To come: priorities. */
-
+/* Gives a thread another policy and priority, from 0 to 31; it goes behind the ready threads of that priority. */
 FSU_INLINE fsu_error fsu_set_scheduling(fsu_tid thread, uint32_t policy, uint32_t priority)
 {
     return fsu_call(262, thread, policy, priority, 0).error;
@@ -186,7 +185,7 @@ FSU_INLINE fsu_answer fsu_get_scheduling(fsu_tid thread)
     return fsu_call(263, thread, 0, 0, 0);
 }
 
-/* The ceiling of a mutex that was made with FSU_PROTECT. */
+/* To come: the ceiling of a mutex that was made with FSU_PROTECT. */
 FSU_INLINE fsu_answer fsu_mutex_ceiling(uint32_t mutex)
 {
     return fsu_call(279, mutex, 0, 0, 0);

@@ -150,12 +150,13 @@ void fsu_pop_cleanup(struct fsu_cleanup *cleanup, int run);
 int pthread_cond_timedwait(pthread_cond_t *__restrict condition, pthread_mutex_t *__restrict mutex,
                            const struct timespec *__restrict end);
 
-/* To come: priorities of threads that there are, and protocols of mutexes. Today pthread_mutex_init answers EINVAL
-   to a protocol. */
+/* Priorities of threads that there are. A ready thread that is given one, its old one too, goes behind the others of
+   that priority. */
 int pthread_setschedparam(pthread_t thread, int policy, const struct sched_param *parameters);
 int pthread_getschedparam(pthread_t thread, int *__restrict policy, struct sched_param *__restrict parameters);
 int pthread_setschedprio(pthread_t thread, int priority);
 
+/* To come: protocols of mutexes. Today pthread_mutex_init answers EINVAL to a protocol. */
 enum { PTHREAD_PRIO_NONE = 0, PTHREAD_PRIO_INHERIT = 1, PTHREAD_PRIO_PROTECT = 2 };
 int pthread_mutexattr_setprotocol(pthread_mutexattr_t *attributes, int protocol);
 int pthread_mutexattr_getprotocol(const pthread_mutexattr_t *__restrict attributes, int *__restrict protocol);

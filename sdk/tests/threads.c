@@ -40,6 +40,27 @@ static void check_priorities(void)
     CHECK(sched_get_priority_min(SCHED_RR) == 0 && sched_get_priority_max(SCHED_RR) == 31);
 }
 
+static void check_changes_of_priority(void)
+{
+    struct sched_param parameters = { 9 };
+    pthread_t thread;
+    int policy;
+
+    CHECK(pthread_create(&thread, NULL, say, "raised above main: runs at once") == 0);
+    CHECK(pthread_setschedparam(thread, SCHED_RR, &parameters) == 0);
+    say("main again");
+    CHECK(pthread_getschedparam(thread, &policy, &parameters) == ESRCH);
+    CHECK(pthread_setschedprio(thread, 9) == ESRCH);
+    CHECK(pthread_join(thread, NULL) == 0);
+    CHECK(pthread_setschedparam(pthread_self(), 3, &parameters) == EINVAL);
+    CHECK(pthread_setschedprio(pthread_self(), 32) == EINVAL);
+    CHECK(pthread_setschedparam(pthread_self(), SCHED_FIFO, &parameters) == 0);
+    CHECK(pthread_setschedprio(pthread_self(), 8) == 0);
+    CHECK(pthread_getschedparam(pthread_self(), &policy, &parameters) == 0);
+    CHECK(policy == SCHED_FIFO && parameters.sched_priority == 8);
+    CHECK(pthread_setschedparam(pthread_self(), SCHED_OTHER, &parameters) == 0);
+}
+
 static void *wait_for_post(void *argument)
 {
     CHECK(sem_wait(&semaphore) == 0);
@@ -133,6 +154,7 @@ int main(void)
     pthread_t thread;
 
     check_priorities();
+    check_changes_of_priority();
     check_semaphores();
     check_once();
     check_exits();

@@ -67,20 +67,6 @@ static void check_cancellation(void)
     pthread_testcancel();
 }
 
-static void check_priorities(void)
-{
-    struct sched_param parameters = { 9 };
-    int policy;
-
-    if (is_missing(pthread_setschedparam(pthread_self(), SCHED_RR, &parameters))) {
-        CHECK(pthread_getschedparam(pthread_self(), &policy, &parameters) == ENOSYS);
-        return;
-    }
-    CHECK(pthread_setschedprio(pthread_self(), 8) == 0);
-    CHECK(pthread_getschedparam(pthread_self(), &policy, &parameters) == 0);
-    CHECK(policy == SCHED_RR && parameters.sched_priority == 8);
-}
-
 /* Protocols are refused as attributes that the call does not know. */
 static void check_protocols(void)
 {
@@ -180,7 +166,6 @@ int main(void)
 {
     check_keys();
     check_cancellation();
-    check_priorities();
     check_protocols();
     check_time();
     check_sets();

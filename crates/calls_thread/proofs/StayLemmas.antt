@@ -5,15 +5,16 @@ use Rattle.thread_base.specs.Maps.{put}
 use Rattle.thread_base.proofs.MapLemmas.{put_same, put_other}
 use Rattle.thread_base.specs.Orders.{is_in}
 use Rattle.thread_base.specs.Priority.{tids}
+use Rattle.thread_base.specs.declared.Policy.{Policy}
 use Rattle.thread_base.proofs.SearchLemmas.{find_passes}
-use Rattle.posix_model.specs.State.{State, Thread, Standing, Absent, Ready, Waits, Ended, is_absent, is_ready}
+use Rattle.posix_model.specs.State.{State, Thread, Standing, Absent, Ready, Waits, Ended, is_absent, is_ready, is_live}
 use Rattle.posix_model.specs.Good.{IsGood}
-use Rattle.posix_model.specs.Changes.{Outcome, to_end, append, set_thread}
+use Rattle.posix_model.specs.Changes.{Outcome, to_end, with_schedule, rescheduled, append, set_thread}
 use Rattle.posix_model.specs.Threads.{exists, free_number}
-use Rattle.kernel_state.specs.Changing.{Can}
+use Rattle.kernel_state.specs.Changing.{Can, CanThread}
 use Rattle.kernel_state.specs.declared.change.Change.{Change}
 use Rattle.kernel_state.specs.declared.change.Change.TheVariants.{Thread as OfThread}
-use Rattle.kernel_state.specs.declared.change.ThreadChange.TheVariants.{Reply}
+use Rattle.kernel_state.specs.declared.change.ThreadChange.TheVariants.{Reply, Schedule}
 
 -- a thread whose record is not that of none is there
 there_put : (m : ℕ → Thread) (t : ℕ) (thread : Thread) → not (is_absent thread.standing) ≡ true → not (is_absent (put m t thread t).standing) ≡ true
@@ -43,6 +44,24 @@ there_detached s t u h =
           (there_put s.threads u (record (s.threads u) { detached = true }) (subst (λ v. exists s v ≡ true) same h))
       | inr other ↦ there_besides s.threads t u _ other h
     ]
+
+pub there_scheduled : (s : State) (t u : ℕ) (policy : Policy) (base : ℕ) → exists s t ≡ true → exists (rescheduled s u policy base) t ≡ true
+there_scheduled s t u policy base h =
+    let thread = with_schedule (s.threads u) policy base in
+    elim (cases_eq t u) [
+      | inl same ↦ subst (λ v. exists (rescheduled s u policy base) v ≡ true) (sym same) (there_put s.threads u thread (subst (λ v. exists s v ≡ true) same h))
+      | inr other ↦ there_besides s.threads t u thread other h
+    ]
+
+live_there : (st : Standing) → is_live st ≡ true → not (is_absent st) ≡ true
+live_there Absent h = let e : false ≡ true = h in cc
+live_there Ready h = refl
+live_there (Waits wait) h = refl
+live_there (Ended value) h = refl
+
+-- the priority of a thread that has not ended can be set
+pub can_schedule : (s : State) (u : ℕ) (policy : Policy) (base : ℕ) → IsGood s → is_live (s.threads u).standing ≡ true → CanThread (Schedule policy base) u s
+can_schedule s u policy base good live = (live_there (s.threads u).standing live, good.ready.listed u)
 
 absent_idle : (st : Standing) → is_absent st ≡ true → is_ready st ≡ false
 absent_idle Absent h = refl

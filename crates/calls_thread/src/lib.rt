@@ -7,6 +7,7 @@ mod ending;
 mod faults;
 mod returns;
 mod rows;
+mod scheduling;
 #[cfg(test)]
 mod tests;
 

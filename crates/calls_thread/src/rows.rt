@@ -9,6 +9,7 @@ ghost use Rattle.kernel_state.specs.Records.{thread_in};
 ghost use Rattle.kernel_state.specs.View.{view};
 ghost use Rattle.kernel_state.specs.Begun.{CanNote, HasNotedSome};
 
+use crate::scheduling::{get_schedule, set_schedule};
 use kernel_state::{Beginning, Change, Kernel, ThreadChange, ThreadRecord};
 use posix_model::{Arguments, Attributes, Ending, Reply, Wait};
 use ready_queues::Ready;
@@ -217,6 +218,8 @@ pub(crate) fn row<R: Ready + Drop>(k: &mut Kernel<R>, t: Tid, number: u32, c: Ar
         259 => detach(k, t, c),
         260 => self_number(k, t, c),
         261 => yield_turn(k, t, c),
+        262 => set_schedule(k, t, c),
+        263 => get_schedule(k, t, c),
         _ => k.refuse(t, Errno::ENOSYS),
     }
 }

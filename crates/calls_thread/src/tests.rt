@@ -198,6 +198,24 @@ fn calls_of_one_thread(rt: HostRuntime) -> Result<(), Fail> {
 }
 
 #[test]
+fn calls_of_priorities(rt: HostRuntime) -> Result<(), Fail> {
+    let alloc = rt.alloc();
+    let most = call(alloc, PlainReady::new(alloc)?, 262, [1, 2, 31, 0])?;
+    assert_eq!(rt; most, Some(Reply::Values(0, 0)));
+    let policy = call(alloc, PlainReady::new(alloc)?, 262, [1, 3, 31, 0])?;
+    assert_eq!(rt; policy, Some(Reply::Values(22, 0)));
+    let priority = call(alloc, PlainReady::new(alloc)?, 262, [1, 2, 32, 0])?;
+    assert_eq!(rt; priority, Some(Reply::Values(22, 0)));
+    let nobody = call(alloc, PlainReady::new(alloc)?, 262, [2, 3, 32, 0])?;
+    assert_eq!(rt; nobody, Some(Reply::Values(3, 0)));
+    let told = call(alloc, PlainReady::new(alloc)?, 263, [1, 0, 0, 0])?;
+    assert_eq!(rt; told, Some(Reply::Values(0, 8)));
+    let untold = call(alloc, PlainReady::new(alloc)?, 263, [65, 0, 0, 0])?;
+    assert_eq!(rt; untold, Some(Reply::Values(3, 0)));
+    Ok(())
+}
+
+#[test]
 fn unknown_calls_and_returns(rt: HostRuntime) -> Result<(), Fail> {
     let alloc = rt.alloc();
     let answered = unknown(alloc, PlainReady::new(alloc)?, 17)?;

@@ -9,7 +9,7 @@ use Rattle.thread_base.specs.Objects.{Mutex, Condition, with_waiters, with_holde
 use Rattle.thread_base.specs.Orders.{without}
 use Rattle.thread_base.proofs.MapLemmas.{put_same, put_other, kept}
 use Rattle.thread_base.proofs.OrderLemmas.{not_in-without, without_absent}
-use Rattle.posix_model.specs.State.{State, Thread, no_keys}
+use Rattle.posix_model.specs.State.{State, Thread, is_ready, no_keys}
 use Rattle.posix_model.specs.Deliveries.{set_pending, left_of}
 use Rattle.posix_model.specs.Arrivals.{dropped}
 use Rattle.posix_model.specs.SignalCalls.{forgotten}
@@ -33,7 +33,7 @@ use Rattle.kernel_state.specs.declared.change.MutexChange.TheVariants.{Make as M
 use Rattle.kernel_state.specs.declared.change.SignalChange.{SignalChange}
 use Rattle.kernel_state.specs.declared.change.SignalChange.TheVariants.{Pend, Take, Drop as DropAll, Lose, Act}
 use Rattle.kernel_state.specs.declared.change.ThreadChange.{ThreadChange}
-use Rattle.kernel_state.specs.declared.change.ThreadChange.TheVariants.{Reply, ToEnd, Create, StartExit, Await, Answer, Resume, Block, Handle, GoBack, Detach, Free, End}
+use Rattle.kernel_state.specs.declared.change.ThreadChange.TheVariants.{Reply, ToEnd, Create, StartExit, Await, Answer, Resume, Block, Handle, GoBack, Schedule, Detach, Free, End}
 use Rattle.kernel_state.proofs.ViewLemmas.{gone_calmly}
 
 -- one thread is put in, taken out or moved
@@ -51,6 +51,10 @@ without_twice t ts = without_absent t (without t ts) (not_in-without t ts)
 
 moved : (t : ℕ) (ts : List ℕ) → without t (without t ts ++ t ∷ []) ≡ without t ts
 moved t ts = without_pushed t (without t ts) ∙ without_twice t ts
+
+moved_where : (b : Bool) (t : ℕ) (ts : List ℕ) → without t (if b then without t ts ++ t ∷ [] else ts) ≡ without t ts
+moved_where true t ts = moved t ts
+moved_where false t ts = refl
 
 -- what a mutex and a condition are without their waiters
 bare_held : (h : _) (o : Option Mutex) → waiters_in (with_holder h o) ≡ waiters_in o
@@ -287,6 +291,7 @@ small_of_thread Resume t g can = small_thread g.state _ t (λ u ne. put_other g.
 small_of_thread (Block mask) t g can = small_thread g.state _ t (λ u ne. put_other g.state.threads t _ u ne) refl refl refl refl refl (still g.state)
 small_of_thread (Handle signal at mask) t g can = small_thread g.state _ t (λ u ne. put_other g.state.threads t _ u ne) refl refl refl refl refl (still g.state)
 small_of_thread GoBack t g can = small_thread g.state _ t (λ u ne. put_other g.state.threads t _ u ne) refl refl refl refl refl (still g.state)
+small_of_thread (Schedule policy base) t g can = small_thread g.state _ t (λ u ne. put_other g.state.threads t _ u ne) (moved_where (is_ready (g.state.threads t).standing) t g.state.ready) refl refl refl refl (still g.state)
 small_of_thread Detach t g can = small_thread g.state _ t (λ u ne. put_other g.state.threads t _ u ne) refl refl refl refl refl (still g.state)
 small_of_thread Free t g can = small_thread g.state _ t (λ u ne. put_other g.state.threads t _ u ne) refl refl refl refl refl (still g.state)
 small_of_thread (End value joined) t g can = small_end g t (remains_of (g.state.threads t) value joined) can.1 can.2 can.3

@@ -6,7 +6,7 @@ use Rattle.thread_base.specs.Objects.{free_mutex, new_condition, holder_in, wait
 use Rattle.thread_base.specs.Orders.{is_in, without}
 use Rattle.rv_exec.specs.Window.{is_inside}
 use Rattle.posix_model.specs.State.{State, Thread, Registers, Mutex, Condition, Normal, Ready, no_thread, no_keys, first_cancellation, is_ready, is_live}
-use Rattle.posix_model.specs.Changes.{Outcome, set_thread, with_reply, append, to_end, await, answer, aligned}
+use Rattle.posix_model.specs.Changes.{Outcome, set_thread, with_reply, append, to_end, rescheduled, await, answer, aligned}
 use Rattle.posix_model.specs.Threads.{exists, free_number, first_registers}
 use Rattle.posix_model.specs.Mutexes.{set_mutex, retake}
 use Rattle.posix_model.specs.Conditions.{set_condition}
@@ -27,7 +27,7 @@ use Rattle.kernel_state.specs.declared.change.MutexChange.TheVariants.{Make as M
 use Rattle.kernel_state.specs.declared.change.SignalChange.{SignalChange}
 use Rattle.kernel_state.specs.declared.change.SignalChange.TheVariants.{Pend, Take, Drop as DropAll, Lose, Act}
 use Rattle.kernel_state.specs.declared.change.ThreadChange.{ThreadChange}
-use Rattle.kernel_state.specs.declared.change.ThreadChange.TheVariants.{Reply, ToEnd, Create, StartExit, Await, Answer, Resume, Block, Handle, GoBack, Detach, Free, End}
+use Rattle.kernel_state.specs.declared.change.ThreadChange.TheVariants.{Reply, ToEnd, Create, StartExit, Await, Answer, Resume, Block, Handle, GoBack, Schedule, Detach, Free, End}
 
 -- a new thread
 abbrev pub begun_thread : Beginning → Thread
@@ -69,6 +69,7 @@ thread_change_by Resume t g = record g { state = append g.state t (g.state.threa
 thread_change_by (Block mask) t g = record g { state = set_thread g.state t (record (g.state.threads t) { mask = mask }) }
 thread_change_by (Handle signal at mask) t g = record g { state = set_thread g.state t (in_handler (g.state.threads t) signal at mask) }
 thread_change_by GoBack t g = record g { state = set_thread g.state t (left (g.state.threads t)) }
+thread_change_by (Schedule policy base) t g = record g { state = rescheduled g.state t policy base }
 thread_change_by Detach t g = record g { state = set_thread g.state t (record (g.state.threads t) { detached = true }) }
 thread_change_by Free t g = record g { state = set_thread g.state t no_thread }
 thread_change_by (End value joined) t g = ended g t (remains_of (g.state.threads t) value joined) (g.state.pending t) value
@@ -135,6 +136,7 @@ CanThread Resume t s = (is_in t s.ready ≡ false) × (is_live (s.threads t).sta
 CanThread (Block mask) t s = exists s t ≡ true
 CanThread (Handle signal at mask) t s = (exists s t ≡ true) × (length (s.threads t).frames < most_frames)
 CanThread GoBack t s = exists s t ≡ true
+CanThread (Schedule policy base) t s = (exists s t ≡ true) × (is_in t s.ready ≡ is_ready (s.threads t).standing)
 CanThread Detach t s = exists s t ≡ true
 CanThread Free t s = (exists s t ≡ true) × (is_in t s.ready ≡ false)
 CanThread (End value joined) t s = IsListed s t × ((sig : ℕ) → s.pending t sig ≡ 0) × HasNoMutex s t × (s.keys ≡ no_keys)

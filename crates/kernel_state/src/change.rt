@@ -39,6 +39,8 @@ pub enum ThreadChange {
     Handle { signal: Sig, at: u32, mask: SigSet },
     /// A thread goes back to its last frame, where it has one.
     GoBack,
+    /// A thread has another base priority and policy, and its turn begins; a ready one goes after the others.
+    Schedule { policy: Policy, base: Prio },
     /// A thread is detached.
     Detach,
     /// The number of a thread that has ended is free.

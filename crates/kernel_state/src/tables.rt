@@ -261,6 +261,31 @@ impl<R: Ready + Drop> Tables<R> {
         self.records.put(t, known);
     }
 
+    /// Changes what the tables keep of a thread that is there and not ready, its base priority too; the others stay.
+    pub(crate) fn put_away(&mut self, t: Tid, known: ThreadRecord)
+        requires there { exists (view R.order self.old) t ≡ true }
+        requires away { is_in t (view R.order self.old).ready ≡ false }
+        ensures view { view R.order self.new ≡ set_thread (view R.order self.old) t (thread_in known ((view R.order self.old).threads t).frames) }
+        ensures report { self.new.report ≡ self.old.report }
+        ensures current { StayCurrent R.order R.prio self.old self.new }
+    {
+        self.records.put(t, known);
+    }
+
+    /// Changes what the tables keep of a ready thread, its base priority too, and puts it after the others.
+    pub(crate) fn put_anew(&mut self, t: Tid, known: ThreadRecord, base: Prio)
+        requires there { exists (view R.order self.old) t ≡ true }
+        requires listed { is_in t (view R.order self.old).ready ≡ true }
+        requires base { known.row.base ≡ base }
+        ensures view { view R.order self.new ≡ with_ready (set_thread (view R.order self.old) t (thread_in known ((view R.order self.old).threads t).frames)) (without t (view R.order self.old).ready ++ t ∷ []) }
+        ensures report { self.new.report ≡ self.old.report }
+        ensures current { StayCurrent R.order R.prio self.old self.new }
+    {
+        self.take_out(t);
+        self.put_away(t, known);
+        self.append(t, base);
+    }
+
     /// Pushes a frame with the registers and the mask of a thread that is there and has fewer than 32 frames, and gives it
     /// others.
     pub(crate) fn enter(&mut self, t: Tid, kind: FrameKind, regs: Regs, mask: SigSet)
@@ -318,6 +343,14 @@ impl<R: Ready + Drop> Tables<R> {
         ensures { result ≡ some_live (view R.order self.now) }
     {
         self.records.live() != 0
+    }
+
+    /// Whether a thread stands in the ready list.
+    #[tactic(auto, unfolding(crate::specs::View::view))]
+    pub(crate) fn is_listed(&self, t: Tid) -> bool
+        ensures { result ≡ is_in t (view R.order self.now).ready }
+    {
+        self.ready.has(t)
     }
 
     /// Puts a ready thread after the others.

@@ -17,7 +17,7 @@ use context_frames::FrameKind;
 use posix_model::{Ending, Report, RetakeReply, Wait};
 use ready_queues::Ready;
 use rv_exec::{CLEANUP_RETURN, HANDLER_RETURN, Regs, START_RETURN};
-use thread_base::{Prio, Sig, SigSet, Tid};
+use thread_base::{Policy, Prio, Sig, SigSet, Tid};
 use thread_table::Row;
 
 /// The value with which a cancelled thread exits (POSIX.1 PTHREAD_CANCELED).
@@ -219,6 +219,24 @@ impl<R: Ready + Drop> Tables<R> {
         self.leave_frame(t);
     }
 
+    /// Gives a thread another base priority and policy, and its turn begins; a ready one goes after the others.
+    #[tactic(auto, unfolding(crate::specs::View::outcome))]
+    fn schedule(&mut self, t: Tid, policy: Policy, base: Prio)
+        requires { CanThread (ThreadChange.Schedule policy base) t (view R.order self.old) }
+        ensures outcome { outcome R.order self.new ≡ thread_change_by (ThreadChange.Schedule policy base) t (outcome R.order self.old) }
+        ensures current { StayCurrent R.order R.prio self.old self.new }
+    {
+        let mut known = self.known(t);
+        known.row.base = base;
+        known.row.policy = policy;
+        known.row.used = 0;
+        if self.is_listed(t) {
+            self.put_anew(t, known, base);
+        } else {
+            self.put_away(t, known);
+        }
+    }
+
     /// Detaches a thread.
     #[tactic(auto, unfolding(crate::specs::View::outcome))]
     fn detach(&mut self, t: Tid)
@@ -311,6 +329,7 @@ impl<R: Ready + Drop> Tables<R> {
             ThreadChange::Block { mask } => self.block(t, mask),
             ThreadChange::Handle { signal, at, mask } => self.handle(t, signal, at, mask),
             ThreadChange::GoBack => self.go_back(t),
+            ThreadChange::Schedule { policy, base } => self.schedule(t, policy, base),
             ThreadChange::Detach => self.detach(t),
             ThreadChange::Free => self.free(t),
             ThreadChange::End { value, joined } => self.end(t, value, joined),

@@ -1,5 +1,6 @@
 -- Goodness by its facets, and each change of which moves are made and that leaves mutexes and conditions as they are.
-use Rattle.std.proofs.Common.{◌≡◌, ◌∙◌, ap, sym, refl, subst, ℕ, Bool, true, false, List, Option, Some, None}
+use Rattle.std.proofs.Common.{◌≡◌, ◌∙◌, ap, sym, refl, subst, ℕ, Bool, true, false, List, [], ◌∷◌, ◌++◌, Option, Some, None}
+use Rattle.std.specs.Prelude.{if◌then◌else◌}
 use Rattle.std.proofs.lemmas.Bool.{eqb-true}
 use Rattle.thread_base.specs.Actions.{ignores}
 use Rattle.thread_base.specs.Maps.{put}
@@ -7,6 +8,7 @@ use Rattle.thread_base.specs.Numbers.{IsTid}
 use Rattle.thread_base.specs.Objects.{appended}
 use Rattle.thread_base.specs.Orders.{without}
 use Rattle.thread_base.specs.Priority.{tids}
+use Rattle.thread_base.specs.declared.Policy.{Policy}
 use Rattle.thread_base.specs.declared.action.Action.{Action}
 use Rattle.thread_base.proofs.MapLemmas.{map_put, put_got, kept}
 use Rattle.thread_base.proofs.OrderLemmas.{IsOrder-push, IsOrder-filter, not_in-without, is_in-to_end, within as in_order_within}
@@ -14,7 +16,7 @@ use Rattle.thread_base.proofs.PriorityLemmas.{first_in}
 use Rattle.thread_base.proofs.SearchLemmas.{in_tids, find_none, any_none}
 use Rattle.posix_model.specs.State.{State, Thread, Mutex, Condition, Standing, Absent, Ready, Waits, EndOf, MutexAt, ConditionAt, aim, target, is_target, no_thread, is_absent, is_ready, is_live, joins, wants, waits_on}
 use Rattle.posix_model.specs.Scheduling.{eff, chosen}
-use Rattle.posix_model.specs.Changes.{Outcome, set_thread, append, to_end, await, reply, with_reply, answer}
+use Rattle.posix_model.specs.Changes.{Outcome, set_thread, append, to_end, with_schedule, rescheduled, await, reply, with_reply, answer}
 use Rattle.posix_model.specs.Threads.{joiner, has_joiner}
 use Rattle.posix_model.specs.Leaving.{without_thread}
 use Rattle.posix_model.specs.Deliveries.{set_pending}
@@ -298,18 +300,32 @@ good_detached s u good nobody =
     (joining_put (standings s) (detachments s) u good.joining (standings s u) true (λ v h. h) (λ v j. absurd (nobody v j)))))
     good.mutexes good.conditions good.waits good.signals
 
--- a ready thread goes to the end of the list
-pub good_to_end : (s : State) (t : ℕ) → IsGood s → is_ready (standings s t) ≡ true → IsGood (to_end s t)
-good_to_end s t good h =
+-- a ready thread goes to the end of the list, and its record changes, but not what it is doing nor whether it is detached
+pub good_last : (s : State) (t : ℕ) (thread : Thread) → thread.standing ≡ standings s t → thread.detached ≡ detachments s t → IsGood s → is_ready (standings s t) ≡ true
+    → IsGood (record (set_thread s t thread) { ready = without t s.ready ++ t ∷ [] })
+good_last s t thread standing detached good h =
     let range = good.within t (ready_live (standings s t) h).0 in
-    let set = set_thread s t (record (s.threads t) { used = 0 }) in
-    let good_here = good_set s t (record (s.threads t) { used = 0 }) refl refl good in
-    good_alike set (to_end s t) refl good_here
+    let good_here = good_set s t thread standing detached good in
+    good_alike (set_thread s t thread) (record (set_thread s t thread) { ready = without t s.ready ++ t ∷ [] }) refl good_here
     (record {
       order = IsOrder-push (without t s.ready) t (IsOrder-filter _ s.ready good.ready.order) range.0 range.1 (not_in-without t s.ready);
       listed = λ u. is_in-to_end t u s.ready (good.ready.listed t ∙ h) ∙ good_here.ready.listed u;
     })
     good_here.joining good_here.mutexes good_here.conditions good_here.waits good_here.signals
+
+pub good_to_end : (s : State) (t : ℕ) → IsGood s → is_ready (standings s t) ≡ true → IsGood (to_end s t)
+good_to_end s t good h = good_last s t (record (s.threads t) { used = 0 }) refl refl good h
+
+-- a thread that is scheduled anew is at the end of the list where it is ready
+pub good_rescheduled : (s : State) (t : ℕ) (policy : Policy) (base : ℕ) → IsGood s → IsGood (rescheduled s t policy base)
+good_rescheduled s t policy base good = by (is_ready (standings s t)) refl
+  where
+    thread : Thread
+    thread = with_schedule (s.threads t) policy base
+
+    by : (b : Bool) → is_ready (standings s t) ≡ b → IsGood (record (set_thread s t thread) { ready = if b then without t s.ready ++ t ∷ [] else s.ready })
+    by true h = good_last s t thread refl refl good h
+    by false h = good_set s t thread refl refl good
 
 -- where no thread is found that joins, none joins
 pub nobody_joins : (s : State) (u : ℕ) → IsGood s → has_joiner s u ≡ false → (v : ℕ) → joins u (standings s v) ≡ true → ⊥

@@ -2,22 +2,24 @@
 use Rattle.std.proofs.Common.{◌≡◌, ap, refl, ℕ, true, false, not, [], ◌∷◌, ◌++◌, Option, Some, None, length}
 use Rattle.std.specs.Prelude.{◌==◌, ◌||◌, min}
 use Rattle.std.proofs.lemmas.Bool.{not-false, or_parts}
+use Rattle.thread_base.specs.Numbers.{policy_of}
 use Rattle.thread_base.specs.Priority.{tids}
 use Rattle.thread_base.specs.declared.Errno.TheVariants.{ESRCH, EBADF, EAGAIN, EFAULT, EINVAL, EDEADLK, ENOSYS}
 use Rattle.thread_base.proofs.SearchLemmas.{tids_in, find_passes, find_member}
 use Rattle.rv_exec.specs.Window.{fits}
 use Rattle.posix_model.specs.State.{State, Standing, Phase, Normal, Leaving, Absent, Ended, MutexAt, ConditionAt, target, is_target, is_absent, is_ready, is_live, joins, no_thread}
-use Rattle.posix_model.specs.Changes.{begun, append, to_end, set_thread, await, exiting}
+use Rattle.posix_model.specs.Changes.{begun, append, to_end, rescheduled, set_thread, await, exiting}
 use Rattle.posix_model.specs.Threads.{has_joiner, free_number, exists, new_thread}
 use Rattle.posix_model.specs.Calls.{most_written, written, write, exit, cannot_start, created, create, exit_thread, is_taken, join_by, join, detached_by, detach, self_number, yield, signal_calls, thread_calls, sync_calls, call_row}
 use Rattle.posix_model.specs.ConditionCalls.{condition_calls}
 use Rattle.posix_model.specs.MutexCalls.{mutex_calls}
+use Rattle.posix_model.specs.PriorityCalls.{cannot_schedule, setsched, schedule_word, getsched}
 use Rattle.posix_model.specs.Replies.{values}
 use Rattle.posix_model.specs.declared.Arguments.{Arguments}
 use Rattle.posix_model.specs.declared.Wait.TheVariants.{Join}
 use Rattle.posix_model.specs.Good.{standings, IsGood}
 use Rattle.posix_model.proofs.StandingLemmas.{never, absent_is}
-use Rattle.posix_model.proofs.GoodLemmas.{good_alike, good_set, good_reply, good_to_end, good_append, good_freed_number, good_join, good_detached, nobody_joins, unjoined}
+use Rattle.posix_model.proofs.GoodLemmas.{good_alike, good_set, good_reply, good_to_end, good_rescheduled, good_append, good_freed_number, good_join, good_detached, nobody_joins, unjoined}
 use Rattle.posix_model.proofs.GoodReplies.{GoodCall, IsGoodRow, AreGoodRows, good_refused, good_refusing, good_row_of}
 use Rattle.posix_model.proofs.GoodMutexes.{good_mutex_calls}
 use Rattle.posix_model.proofs.GoodConditions.{good_condition_calls}
@@ -84,11 +86,22 @@ good_self s t c good ready = good_reply s t 0 t good
 good_yield : IsGoodRow yield
 good_yield s t c good ready = good_reply (to_end s t) t 0 0 (good_to_end s t good ready)
 
+good_setsched : IsGoodRow setsched
+good_setsched s t c good ready =
+    let set = rescheduled s c.a0 (policy_of c.a1) c.a2 in
+    good_refusing s t ((not (is_live (standings s c.a0)), ESRCH) ∷ (cannot_schedule c, EINVAL) ∷ []) (values (begun set) t 0 0) good (λ may.
+    good_reply set t 0 0 (good_rescheduled s c.a0 (policy_of c.a1) c.a2 good))
+
+good_getsched : IsGoodRow getsched
+good_getsched s t c good ready =
+    good_refusing s t ((not (is_live (standings s c.a0)), ESRCH) ∷ []) (values (begun s) t 0 (schedule_word (s.threads c.a0))) good (λ may.
+    good_reply s t 0 (schedule_word (s.threads c.a0)) good)
+
 good_signal_calls : AreGoodRows signal_calls
 good_signal_calls = (good_write, good_kill_calls)
 
 good_thread_calls : AreGoodRows thread_calls
-good_thread_calls = (good_exit, (good_create, (good_exit_thread, (good_join_row, (good_detach, (good_self, (good_yield, tt)))))))
+good_thread_calls = (good_exit, (good_create, (good_exit_thread, (good_join_row, (good_detach, (good_self, (good_yield, (good_setsched, (good_getsched, tt)))))))))
 
 pub good_call : (s : State) (t number : ℕ) (c : Arguments) → IsGood s → is_ready (standings s t) ≡ true → GoodCall (call_row s t number c)
 unfolding call_row

@@ -4,14 +4,15 @@ use Rattle.std.specs.Prelude.{◌==◌, ◌||◌, if◌then◌else◌, min, is_s
 use Rattle.std.specs.List.{AllByRecursion}
 use Rattle.std.proofs.lemmas.Bool.{or_parts}
 use Rattle.thread_base.specs.Holders.{is_held_by, count_of, is_free}
+use Rattle.thread_base.specs.Numbers.{policy_of}
 use Rattle.thread_base.specs.Objects.{new_condition}
 use Rattle.thread_base.specs.Orders.{is_nil}
 use Rattle.thread_base.specs.declared.Errno.{Errno}
 use Rattle.thread_base.specs.declared.Errno.TheVariants.{EPERM, ESRCH, EBADF, EAGAIN, EFAULT, EBUSY, EINVAL, EDEADLK}
 use Rattle.thread_base.specs.declared.mutex.Holder.TheVariants.{Held}
 use Rattle.rv_exec.specs.Window.{fits}
-use Rattle.posix_model.specs.State.{State, Mutex, Condition, Standing, Absent, Ready, Waits, Ended, wait_of}
-use Rattle.posix_model.specs.Changes.{Outcome, begun}
+use Rattle.posix_model.specs.State.{State, Mutex, Condition, Standing, Absent, Ready, Waits, Ended, is_live, wait_of}
+use Rattle.posix_model.specs.Changes.{Outcome, begun, rescheduled}
 use Rattle.posix_model.specs.Mutexes.{set_mutex, hand_off, best_waiter, give, requeue, retake_of}
 use Rattle.posix_model.specs.Threads.{exists, free_number}
 use Rattle.posix_model.specs.Conditions.{set_condition, is_other, is_used, leave, wake_from, wake, wake_all, in_order, next_woken}
@@ -19,6 +20,7 @@ use Rattle.posix_model.specs.Scheduling.{eff}
 use Rattle.posix_model.specs.Replies.{Called, Row, Entry, values, refused, refusing, row_of}
 use Rattle.posix_model.specs.Calls.{most_written, written, write, cannot_start, is_taken, created, create, join_by, join, detached_by, detach, thread_calls, sync_calls, call_row}
 use Rattle.posix_model.specs.MutexCalls.{new_mutex, cannot_init, is_checked, is_full, mutex_init, destroy_of, take, queue, is_open_to, lock_of, trylock_of, released, unlock_of, mutex_calls}
+use Rattle.posix_model.specs.PriorityCalls.{cannot_schedule, setsched, schedule_word, getsched}
 use Rattle.posix_model.specs.ConditionCalls.{await_condition, wait_and_release, cond_init, cond_destroy_of, cond_wait_of, wake_one, cond_signal_of, cond_broadcast_of, condition_calls}
 use Rattle.posix_model.specs.SignalCalls.{kill_calls}
 use Rattle.posix_model.specs.declared.Arguments.{Arguments}
@@ -164,6 +166,13 @@ calm_detach s t c =
     calm_refusing s t ((not (exists s c.a0), ESRCH) ∷ (is_taken s c.a0, EINVAL) ∷ []) (values (begun (detached_by s c.a0 (s.threads c.a0).standing)) t 0 0)
     (calm_detached_by s c.a0 (s.threads c.a0).standing)
 
+calm_setsched : IsCalm setsched
+calm_setsched s t c =
+    calm_refusing s t ((not (is_live (s.threads c.a0).standing), ESRCH) ∷ (cannot_schedule c, EINVAL) ∷ []) (values (begun (rescheduled s c.a0 (policy_of c.a1) c.a2)) t 0 0) refl
+
+calm_getsched : IsCalm getsched
+calm_getsched s t c = calm_refusing s t ((not (is_live (s.threads c.a0).standing), ESRCH) ∷ []) (values (begun s) t 0 (schedule_word (s.threads c.a0))) refl
+
 calm_mutex_init : IsCalm mutex_init
 calm_mutex_init s t c =
     calm_refusing s t ((cannot_init c, EINVAL) ∷ (is_some (s.mutexes c.a0), EBUSY) ∷ []) (values (begun (set_mutex s c.a0 (Some (new_mutex c.a1)))) t 0 0) refl
@@ -173,7 +182,7 @@ calm_cond_init s t c =
     calm_refusing s t ((not (nat_lt c.a0 256), EINVAL) ∷ (is_some (s.conditions c.a0), EBUSY) ∷ []) (values (begun (set_condition s c.a0 (Some new_condition))) t 0 0) refl
 
 calm_thread_calls : AreCalm thread_calls
-calm_thread_calls = (λ s t c. refl, (calm_create, (λ s t c. refl, (calm_join, (calm_detach, (λ s t c. refl, (λ s t c. refl, tt)))))))
+calm_thread_calls = (λ s t c. refl, (calm_create, (λ s t c. refl, (calm_join, (calm_detach, (λ s t c. refl, (λ s t c. refl, (calm_setsched, (calm_getsched, tt)))))))))
 
 calm_mutex_calls : AreCalm mutex_calls
 calm_mutex_calls = (

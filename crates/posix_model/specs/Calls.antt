@@ -9,6 +9,7 @@ use Rattle.posix_model.specs.Leaving.{exit_with}
 pub use Rattle.posix_model.specs.Replies.{Called, Row, Entry, row_of, arguments, call_number, values, refused, refusing, blocked}
 use Rattle.posix_model.specs.MutexCalls.{mutex_calls}
 use Rattle.posix_model.specs.ConditionCalls.{condition_calls}
+use Rattle.posix_model.specs.PriorityCalls.{setsched, getsched}
 use Rattle.posix_model.specs.SignalCalls.{kill_calls}
 use Rattle.posix_model.specs.declared.Arguments.{Arguments}
 use Rattle.posix_model.specs.declared.Report.{Report}
@@ -108,7 +109,8 @@ signal_calls = (64, write) ∷ kill_calls
 -- exit, and the calls of threads
 abbrev pub thread_calls : List Entry
 thread_calls =
-    (93, exit) ∷ (256, create) ∷ (257, exit_thread) ∷ (258, join) ∷ (259, detach) ∷ (260, self_number) ∷ (261, yield) ∷ []
+    (93, exit) ∷ (256, create) ∷ (257, exit_thread) ∷ (258, join) ∷ (259, detach) ∷ (260, self_number) ∷ (261, yield)
+    ∷ (262, setsched) ∷ (263, getsched) ∷ []
 
 -- the calls of mutexes and of condition variables
 abbrev pub sync_calls : List Entry

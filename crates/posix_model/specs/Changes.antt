@@ -2,7 +2,8 @@
 use Rattle.std.specs.Prelude.{ℕ, ◌+◌, ◌-◌, ◌^◌, ◌%◌, ◌==◌, if◌then◌else◌, false, [], ◌∷◌, ◌++◌, nat_lt, slice_index, slice_set, bit_or}
 use Rattle.thread_base.specs.Maps.{put}
 use Rattle.thread_base.specs.Orders.{without}
-use Rattle.posix_model.specs.State.{State, Thread, Registers, Phase, Normal, Leaving, Cancellation, Ready, Waits}
+use Rattle.thread_base.specs.declared.Policy.{Policy}
+use Rattle.posix_model.specs.State.{State, Thread, Registers, Phase, Normal, Leaving, Cancellation, Ready, Waits, is_ready}
 use Rattle.posix_model.specs.declared.RetakeReply.{RetakeReply}
 use Rattle.posix_model.specs.declared.RetakeReply.TheVariants.{Answer, Cancel}
 use Rattle.posix_model.specs.declared.Wait.{Wait}
@@ -57,6 +58,18 @@ abbrev pub to_end : State → ℕ → State
 to_end s t = record s {
   threads = put s.threads t (record (s.threads t) { used = 0 });
   ready = without t s.ready ++ t ∷ [];
+}
+
+-- a thread with another priority of its own and another policy, whose turn begins
+abbrev pub with_schedule : Thread → Policy → ℕ → Thread
+with_schedule thread policy base = record thread { base = base; policy = policy; used = 0 }
+
+-- a thread gets another priority of its own and another policy; where it is ready it goes to the end of the ready list
+-- (POSIX.1 pthread_setschedparam)
+abbrev pub rescheduled : State → ℕ → Policy → ℕ → State
+rescheduled s t policy base = record s {
+  threads = put s.threads t (with_schedule (s.threads t) policy base);
+  ready = if is_ready (s.threads t).standing then without t s.ready ++ t ∷ [] else s.ready;
 }
 
 -- a ready thread waits from now on, its pc at its call

@@ -15,6 +15,7 @@ pub mod MutexCalls
 pub mod Deliveries
 pub mod Arrivals
 pub mod SignalCalls
+pub mod PriorityCalls
 pub mod Calls
 pub mod Instructions
 pub mod Journals
@@ -26,6 +27,7 @@ pub mod Weights
 pub mod Laws
 pub mod Examples
 pub mod MutexExamples
+pub mod PriorityExamples
 pub mod ConditionExamples
 pub mod SignalExamples
 pub mod ArrivalExamples

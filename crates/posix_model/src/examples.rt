@@ -3,6 +3,7 @@
 
 ghost use Rattle.posix_model.specs.Examples as examples;
 ghost use Rattle.posix_model.specs.MutexExamples as mutexes;
+ghost use Rattle.posix_model.specs.PriorityExamples as priorities;
 ghost use Rattle.posix_model.specs.ConditionExamples as conditions;
 ghost use Rattle.posix_model.specs.SignalExamples as signals;
 ghost use Rattle.posix_model.specs.ArrivalExamples as arrivals;
@@ -113,6 +114,21 @@ pub fn destroys()
 /// A mutex whose owner ended stays locked, and nobody gets it.
 pub fn orphans()
     ensures { mutexes.Orphans }
+{}
+
+/// The refusals of setsched and getsched: no such thread, one that has ended, a policy or a priority out of range.
+pub fn scheduling_refusals()
+    ensures { priorities.SchedulingRefusals }
+{}
+
+/// A ready thread whose priority is set goes after the others, and who runs is chosen anew.
+pub fn schedules()
+    ensures { priorities.Schedules }
+{}
+
+/// A thread that waits goes on waiting, and its new priority decides who gets a mutex.
+pub fn schedules_waiters()
+    ensures { priorities.SchedulesWaiters }
 {}
 
 /// Who waits for a condition lets its mutex go at once, and stands after the other waiters.

@@ -188,7 +188,7 @@ module _ (sig : ℕ) (low : 1 ≤ sig) (high : sig ≤ 31) where
   unfolding call_row
   even_call s t number =
       counts_row_of number signal_calls (thread_calls ++ sync_calls) counts_signal_calls
-      (counts_row_of number thread_calls sync_calls (calm_each thread_calls (λ args. refl, (λ args. refl, (λ args. refl, (λ args. refl, (λ args. refl, (λ args. refl, (λ args. refl, tt))))))) calm_thread_calls)
+      (counts_row_of number thread_calls sync_calls (calm_each thread_calls (λ args. refl, (λ args. refl, (λ args. refl, (λ args. refl, (λ args. refl, (λ args. refl, (λ args. refl, (λ args. refl, (λ args. refl, tt))))))))) calm_thread_calls)
       (counts_row_of number mutex_calls condition_calls (calm_each mutex_calls (λ args. refl, (λ args. refl, (λ args. refl, (λ args. refl, (λ args. refl, tt))))) calm_mutex_calls)
       (counts_row_of number condition_calls [] (calm_each condition_calls (λ args. refl, (λ args. refl, (λ args. refl, (λ args. refl, (λ args. refl, tt))))) calm_condition_calls) (λ r u c good. counts_refused r u number c ENOSYS))))
       s t
