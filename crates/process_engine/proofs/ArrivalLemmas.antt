@@ -20,8 +20,7 @@ use Rattle.posix_model.specs.Reports.{nothing_told}
 use Rattle.posix_model.specs.Runs.{Rules, Moment, MayArrive, arrived, make, moved, due}
 use Rattle.posix_model.specs.Start.{start, start_state}
 use Rattle.posix_model.specs.declared.Settings.{Settings}
-use Rattle.posix_model.specs.declared.Head.{Head}
-use Rattle.posix_model.specs.declared.Head.TheVariants.{Quiet, ArriveSig}
+use Rattle.posix_model.specs.declared.Head.TheVariants.{ArriveSig}
 use Rattle.posix_model.specs.declared.Move.TheVariants.{Arrive}
 use Rattle.posix_model.proofs.GoodMoves.{goodness}
 use Rattle.posix_model.proofs.PendingMoves.{bounded_start}
@@ -39,8 +38,7 @@ use Rattle.kernel_state.proofs.ArrivalLemmas.{drained_of_entry}
 use Rattle.kernel_state.proofs.LawLemmas.{drained_may_arrive}
 use Rattle.kernel_state.proofs.SoundLemmas.{taken_is, taken_kept}
 use Rattle.dispatcher.specs.Arriving.{is_empty, AreSignals, BeginsArrival, rules_of as rules_at}
-use Rattle.process_engine.specs.Engine.{Engine, order, owed_of, moment_of, position_of, rules_of, next_place, stop_of, ArePrompt, Stands, IsSound}
-use Rattle.process_engine.specs.Turns.{Presents}
+use Rattle.process_engine.specs.Engine.{Engine, order, owed_of, moment_of, position_of, rules_of, next_place, stop_of, ArePrompt, IsSound}
 use Rattle.process_engine.specs.Advancing.{HasBegun, BeginsMove, Advances}
 use Rattle.process_engine.specs.declared.stage.Advance.TheVariants.{Begun}
 use Rattle.process_engine.specs.declared.stage.Stage.TheVariants.{Paused, InCall}

@@ -1,7 +1,6 @@
 -- A process at rest and in a move, and its first instruction of a move.
 use Rattle.std.proofs.Common.{◌≡◌, ◌∙◌, ap, sym, refl, subst, inl, inr, ℕ, ◌+◌, ◌<◌, ◌≤◌, Bool, true, false, ◌&&◌, List, [], ◌∷◌, length, Option, Some, None, arith}
 use Rattle.std.specs.Prelude.{min, is_none}
-use Rattle.std.proofs.lemmas.Bool.{cases_Bool}
 use Rattle.thread_base.specs.Orders.{is_in, is_nil}
 use Rattle.thread_base.specs.Priority.{tids, first_greatest}
 use Rattle.thread_base.proofs.PriorityLemmas.{first_some}
@@ -39,7 +38,7 @@ use Rattle.kernel_state.specs.Outside.{OutsideState}
 use Rattle.kernel_state.specs.Presented.{Stands as StandsOutside, taken_of}
 use Rattle.kernel_state.specs.declared.rest.Rest.{Rest}
 use Rattle.dispatcher.specs.Arriving.{is_empty, AreSignals}
-use Rattle.process_engine.specs.Engine.{Engine, order, owed_of, moment_of, position_of, telling_of, rules_of, next_place, stop_of, is_due, ArePrompt, HasTurn, Stands, IsSound}
+use Rattle.process_engine.specs.Engine.{Engine, order, owed_of, moment_of, position_of, telling_of, next_place, stop_of, is_due, ArePrompt, HasTurn, Stands, IsSound}
 use Rattle.process_engine.specs.Advancing.{HasGoneOn, HasBegun, BeginsInstruction, MakesPlain, BeginsMove, EndsHere, Advances}
 use Rattle.process_engine.specs.declared.stage.Advance.TheVariants.{Plain, Switched, Begun}
 use Rattle.process_engine.specs.declared.stage.Stage.{Stage}

@@ -2,7 +2,6 @@ use Rattle.std.proofs.Common.{◌∙◌, ap, sym, Bool, ◌&&◌}
 use Rattle.posix_model.specs.Deliveries.{next_delivery}
 use Rattle.kernel_state.specs.View.{view}
 use Rattle.kernel_state.specs.Executing.{delivery_by}
-use Rattle.kernel_state.specs.Outside.{OutsideState}
 use Rattle.kernel_state.specs.declared.tables.Tables.{Tables}
 use Rattle.dispatcher.specs.Arriving.{is_empty}
 use Rattle.process_engine.proofs.EngineLemmas.{some_ready, nobody_ready}

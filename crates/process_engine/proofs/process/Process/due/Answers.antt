@@ -4,7 +4,7 @@ use Rattle.std.proofs.lemmas.Bool.{le-leb, lt-leb}
 use Rattle.posix_model.specs.Runs.{is_waiting}
 use Rattle.kernel_state.specs.View.{view}
 use Rattle.dispatcher.specs.Arriving.{is_empty}
-use Rattle.process_engine.specs.Engine.{Engine, order, owed_of, is_due}
+use Rattle.process_engine.specs.Engine.{order, owed_of, is_due}
 use Rattle.process_engine.specs.contracts.process.Process.{the_view}
 use Rattle.process_engine.proofs.DueLemmas.{is_reached_or}
 use Rattle.process_engine.proofs.EngineLemmas.{quiet_stage, rest_stands, due_found}

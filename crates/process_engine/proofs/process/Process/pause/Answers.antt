@@ -1,6 +1,6 @@
 use Rattle.std.proofs.Common.{◌∙◌, ap}
 use Rattle.process_engine.specs.Engine.{Engine, moment_of}
-use Rattle.process_engine.specs.declared.stage.Stage.TheVariants.{Going, Paused}
+use Rattle.process_engine.specs.declared.stage.Stage.TheVariants.{Going}
 use Rattle.process_engine.specs.contracts.process.Process.{the_view}
 use Rattle.process_engine.proofs.EngineLemmas.{stands_at, paused_sound, paused_now}
 use Rattle.process_engine.proofs.process.Process.pause.Goals as goal

@@ -1,9 +1,8 @@
-use Rattle.std.proofs.Common.{◌∙◌, ap, arith, length, refl, subst, ◌+◌, ◌≡◌}
-use Rattle.journal_text.specs.Contents.{Contents}
+use Rattle.std.proofs.Common.{◌∙◌, ap, arith, refl, subst, ◌+◌, ◌≡◌}
 use Rattle.ready_queues.specs.Queue.{Queue}
 use Rattle.kernel_state.specs.Kernels.{KernelState}
 use Rattle.kernel_state.specs.Outside.{OutsideState, present}
-use Rattle.process_engine.specs.Engine.{Engine, moment_of, position_of, rules_of, is_due, stop_of}
+use Rattle.process_engine.specs.Engine.{Engine, moment_of, rules_of, is_due, stop_of}
 use Rattle.process_engine.specs.Turns.{Presents}
 use Rattle.process_engine.specs.declared.stage.Stage.TheVariants.{Paused}
 use Rattle.process_engine.specs.contracts.process.Process.{the_view}

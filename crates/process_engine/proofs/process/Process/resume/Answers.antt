@@ -1,6 +1,5 @@
 use Rattle.std.proofs.Common.{◌∙◌, ap, sym, refl, subst}
 use Rattle.ready_queues.specs.Queue.{Queue, level_of}
-use Rattle.posix_model.specs.Deliveries.{next_delivery}
 use Rattle.posix_model.specs.Scheduling.{chosen}
 use Rattle.kernel_state.specs.Kernels.{KernelState}
 use Rattle.kernel_state.specs.View.{view}

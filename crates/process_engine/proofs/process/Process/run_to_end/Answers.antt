@@ -1,6 +1,5 @@
-use Rattle.std.proofs.Common.{◌∙◌, refl, subst}
-use Rattle.process_engine.specs.Engine.{Engine, Position, moment_of, position_of}
-use Rattle.process_engine.specs.Turns.{IsTurn}
+use Rattle.std.proofs.Common.{◌∙◌, refl}
+use Rattle.process_engine.specs.Engine.{Engine, moment_of, position_of}
 use Rattle.process_engine.specs.declared.Turn.TheVariants.{Quiet, Made, Ended}
 use Rattle.process_engine.proofs.WholeLemmas.{none_run, good_run, quiet_run, made_run, ended_run, quiet_falls, made_falls, turn_from}
 use Rattle.process_engine.proofs.process.Process.run_to_end.Goals as goal
