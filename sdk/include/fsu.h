@@ -167,6 +167,35 @@ FSU_INLINE fsu_error fsu_cond_broadcast(uint32_t condition)
     return fsu_call(285, condition, 0, 0, 0).error;
 }
 
+/* Signals, which come from the journal too. In a set of signals bit s stands for the signal s. */
+
+/* What a signal does: FSU_DEFAULT, FSU_IGNORE or the address of a handler, which gets the signal as its argument, and
+   during which the set is masked too. Answers what it did before. */
+enum { FSU_DEFAULT = 0, FSU_IGNORE = 1 };
+FSU_INLINE fsu_answer fsu_action(uint32_t signal, uint32_t action, uint32_t set)
+{
+    return fsu_call(286, signal, action, set, 0);
+}
+
+/* Changes the mask of the calling thread. Answers the old one. */
+enum { FSU_BLOCK = 0, FSU_UNBLOCK = 1, FSU_SET = 2 };
+FSU_INLINE fsu_answer fsu_mask(uint32_t how, uint32_t set)
+{
+    return fsu_call(287, how, set, 0, 0);
+}
+
+/* Sends a signal to a thread; 0 only asks whether there is one. */
+FSU_INLINE fsu_error fsu_kill_thread(fsu_tid thread, uint32_t signal)
+{
+    return fsu_call(290, thread, signal, 0, 0).error;
+}
+
+/* Sends a signal to the process. */
+FSU_INLINE fsu_error fsu_kill_process(uint32_t signal)
+{
+    return fsu_call(291, signal, 0, 0, 0).error;
+}
+
 /* To come: input. Reads bytes from descriptor 0. Answers how many, or minus the error. */
 FSU_INLINE int32_t fsu_read(uint32_t descriptor, void *bytes, uint32_t length)
 {
@@ -258,22 +287,7 @@ FSU_INLINE fsu_answer fsu_get_specific(uint32_t key)
     return fsu_call(273, key, 0, 0, 0);
 }
 
-/* To come: signals. In a set of signals bit s stands for the signal s. */
-
-/* What a signal does: FSU_DEFAULT, FSU_IGNORE or the address of a handler, during which the set is masked too.
-   Answers what it did before. */
-enum { FSU_DEFAULT = 0, FSU_IGNORE = 1 };
-FSU_INLINE fsu_answer fsu_action(uint32_t signal, uint32_t action, uint32_t set)
-{
-    return fsu_call(286, signal, action, set, 0);
-}
-
-/* Changes the mask of the calling thread. Answers the old one. */
-enum { FSU_BLOCK = 0, FSU_UNBLOCK = 1, FSU_SET = 2 };
-FSU_INLINE fsu_answer fsu_mask(uint32_t how, uint32_t set)
-{
-    return fsu_call(287, how, set, 0, 0);
-}
+/* To come: signals that a thread asks for. */
 
 /* The set of signals that pend on the thread or the process. */
 FSU_INLINE fsu_answer fsu_pending(void)
@@ -285,16 +299,6 @@ FSU_INLINE fsu_answer fsu_pending(void)
 FSU_INLINE fsu_answer fsu_wait_signal(uint32_t set)
 {
     return fsu_call(289, set, 0, 0, 0);
-}
-
-FSU_INLINE fsu_error fsu_kill_thread(fsu_tid thread, uint32_t signal)
-{
-    return fsu_call(290, thread, signal, 0, 0).error;
-}
-
-FSU_INLINE fsu_error fsu_kill_process(uint32_t signal)
-{
-    return fsu_call(291, signal, 0, 0, 0).error;
 }
 
 /* To come: time. Ticks come from the journal, and a deadline is a number of ticks since the start. */
