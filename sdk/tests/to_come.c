@@ -157,8 +157,12 @@ static void check_signals(void)
     CHECK(old.sa_handler == SIG_DFL && signal(SIGUSR1, SIG_DFL) == SIG_IGN);
     CHECK(pthread_sigmask(SIG_BLOCK, &set, &mask) == 0 && mask == 0);
     CHECK(pthread_sigmask(SIG_SETMASK, NULL, &mask) == 0 && mask == set);
-    CHECK(raise(SIGUSR1) == 0 && sigpending(&mask) == 0 && mask == set);
-    CHECK(sigwait(&set, &number) == 0 && number == SIGUSR1);
+    CHECK(raise(SIGUSR1) == 0);
+    if (has_failed(sigpending(&mask), ENOSYS)) {
+        CHECK(sigwait(&set, &number) == ENOSYS);
+    } else {
+        CHECK(mask == set && sigwait(&set, &number) == 0 && number == SIGUSR1);
+    }
     CHECK(kill(getpid(), 0) == 0 && has_failed(kill(2, 0), ESRCH));
 }
 
