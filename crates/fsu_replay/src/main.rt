@@ -1,4 +1,5 @@
-//! Replays an image of thread programs under a journal of signals: `fsu_replay IMAGE JOURNAL`.
+//! Replays an image of thread programs under a journal of signals:
+//! `fsu_replay IMAGE JOURNAL [--budget N] [--quantum Q] [--mem BYTES]`.
 #![tactic(auto)]
 
 use replay_cli::{Failure, Status, replay};

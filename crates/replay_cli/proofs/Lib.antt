@@ -1,3 +1,4 @@
+pub mod WordLemmas
 pub mod Signals
 pub mod FailureLines
 pub mod PlaceLines

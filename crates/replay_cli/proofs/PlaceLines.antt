@@ -5,7 +5,8 @@ use Rattle.posix_model.specs.Laws.{IsWholeRun}
 use Rattle.posix_model.specs.Runs.{Rules, Moment, after}
 use Rattle.posix_model.specs.declared.Ending.{Ending}
 use Rattle.process_engine.specs.Whole.{RunsToEnd}
-use Rattle.replay_cli.specs.Headline.{loaded, default_rules, IsStartOf}
+use Rattle.replay_cli.specs.Words.{Request}
+use Rattle.replay_cli.specs.Headline.{loaded, rules_under, IsStartOf}
 use Rattle.replay_cli.specs.Places.{places_text, TellsPlacesOf, TellsFrontOf}
 
 -- a piece after a line, and then more
@@ -13,12 +14,12 @@ pub joined : (line a b mid new : List ℕ) → mid ≡ line ++ a → new ≡ mid
 joined line a b mid new e f = f ∙ ap (λ (x : List ℕ). x ++ b) e ∙ append_assoc line a b
 
 -- the text of a whole run's end was written
-pub tells_places : (image journal : Option (List ℕ)) (rules : Rules) (start now : Moment) (ending : Ending) (a b : Option (List ℕ)) (f g : ℕ)
-    → IfSome image (λ image. IsStartOf (loaded image) start) → IfSome journal (λ journal. rules ≡ default_rules (loaded journal)) → RunsToEnd rules start ending now
-    → WritesWhole a b f g (places_text now ending) → IfSome image (λ image. IfSome journal (λ journal. TellsPlacesOf (loaded image) (loaded journal) a b))
-tells_places None journal rules start now ending a b f g is same ran w = tt
-tells_places (Some image) None rules start now ending a b f g is same ran w = tt
-tells_places (Some image) (Some journal) rules start now ending a b f g is same ran w = record {
+pub tells_places : (asked : Request) (image journal : Option (List ℕ)) (rules : Rules) (start now : Moment) (ending : Ending) (a b : Option (List ℕ)) (f g : ℕ)
+    → IfSome image (λ image. IsStartOf asked.memory (loaded image) start) → IfSome journal (λ journal. rules ≡ rules_under asked.settings (loaded journal)) → RunsToEnd rules start ending now
+    → WritesWhole a b f g (places_text now ending) → IfSome image (λ image. IfSome journal (λ journal. TellsPlacesOf asked (loaded image) (loaded journal) a b))
+tells_places asked None journal rules start now ending a b f g is same ran w = tt
+tells_places asked (Some image) None rules start now ending a b f g is same ran w = tt
+tells_places asked (Some image) (Some journal) rules start now ending a b f g is same ran w = record {
   start = start;
   of_image = is;
   moves = ran.moves;
@@ -28,12 +29,12 @@ tells_places (Some image) (Some journal) rules start now ending a b f g is same 
 }
 
 -- a front of the text of a whole run's end was written
-pub tells_front : (image journal : Option (List ℕ)) (rules : Rules) (start now : Moment) (ending : Ending) (a b : Option (List ℕ)) (f g : ℕ)
-    → IfSome image (λ image. IsStartOf (loaded image) start) → IfSome journal (λ journal. rules ≡ default_rules (loaded journal)) → RunsToEnd rules start ending now
-    → WritesFront a b f g (places_text now ending) → IfSome image (λ image. IfSome journal (λ journal. TellsFrontOf (loaded image) (loaded journal) a b))
-tells_front None journal rules start now ending a b f g is same ran w = tt
-tells_front (Some image) None rules start now ending a b f g is same ran w = tt
-tells_front (Some image) (Some journal) rules start now ending a b f g is same ran w = record {
+pub tells_front : (asked : Request) (image journal : Option (List ℕ)) (rules : Rules) (start now : Moment) (ending : Ending) (a b : Option (List ℕ)) (f g : ℕ)
+    → IfSome image (λ image. IsStartOf asked.memory (loaded image) start) → IfSome journal (λ journal. rules ≡ rules_under asked.settings (loaded journal)) → RunsToEnd rules start ending now
+    → WritesFront a b f g (places_text now ending) → IfSome image (λ image. IfSome journal (λ journal. TellsFrontOf asked (loaded image) (loaded journal) a b))
+tells_front asked None journal rules start now ending a b f g is same ran w = tt
+tells_front asked (Some image) None rules start now ending a b f g is same ran w = tt
+tells_front asked (Some image) (Some journal) rules start now ending a b f g is same ran w = record {
   start = start;
   of_image = is;
   moves = ran.moves;

@@ -9,45 +9,38 @@ use Rattle.posix_model.specs.Start as machine
 use Rattle.posix_model.specs.Trace.{IsWholeText}
 use Rattle.posix_model.specs.declared.Settings.{Settings}
 use Rattle.posix_model.specs.declared.Ending.{Ending}
+use Rattle.replay_cli.specs.Words.{Request}
 
 -- the bytes that a load gives of a content: one more than an image or a journal may have
 -- (kept folded, since its number is large)
 unfoldable pub loaded : List ℕ → List ℕ
 loaded content = take 16777217 content
 
--- the bytes of the window
-abbrev pub memory_size : ℕ
-memory_size = 4194304
+-- the rules of a run under a journal of these bytes: the settings, and the entries that the bytes spell
+abbrev pub rules_under : Settings → List ℕ → Rules
+rules_under settings journal = record { settings = settings; journal = entries_of journal }
 
--- the budget of instructions, and the ticks of a turn
-abbrev pub default_settings : Settings
-default_settings = record { budget = 1000000; quantum = 4 }
-
--- the rules of a run under a journal of these bytes: these settings, and the entries that the bytes spell
-abbrev pub default_rules : List ℕ → Rules
-default_rules journal = record { settings = default_settings; journal = entries_of journal }
-
--- a run at the start of the machine, over the memory of an accepted image
-pub record IsStartOf (image : List ℕ) (start : Moment) : Type 0 where
-  pub accepted : first_refusal image memory_size ≡ None
+-- a run at the start of the machine, over a memory of this size that holds an accepted image
+pub record IsStartOf (size : ℕ) (image : List ℕ) (start : Moment) : Type 0 where
+  pub accepted : first_refusal image size ≡ None
   pub memory : List ℕ
-  pub holds : IsStart image (segments_of image) memory_size memory
+  pub holds : IsStart image (segments_of image) size memory
   pub begins : start ≡ machine.start memory (e_entry image)
 
--- the text of one whole run from an image, under a journal, came after what was written before; its last line names the ending
-pub record WritesRunOf (image journal : List ℕ) (before after : Option (List ℕ)) : Type 0 where
+-- the text of one whole run from an image, under a journal, as it is asked for, came after what was written before; its last line names the ending
+pub record WritesRunOf (asked : Request) (image journal : List ℕ) (before after : Option (List ℕ)) : Type 0 where
   pub start : Moment
-  pub of_image : IsStartOf image start
+  pub of_image : IsStartOf asked.memory image start
   pub ending : Ending
   pub trace : List ℕ
-  pub whole : IsWholeText (default_rules journal) start ending trace
+  pub whole : IsWholeText (rules_under asked.settings journal) start ending trace
   pub told : Appended before after trace
 
--- a front of the text of one whole run from an image, under a journal, came after what was written before
-pub record WritesFrontOf (image journal : List ℕ) (before after : Option (List ℕ)) : Type 0 where
+-- a front of the text of one whole run from an image, under a journal, as it is asked for, came after what was written before
+pub record WritesFrontOf (asked : Request) (image journal : List ℕ) (before after : Option (List ℕ)) : Type 0 where
   pub start : Moment
-  pub of_image : IsStartOf image start
+  pub of_image : IsStartOf asked.memory image start
   pub ending : Ending
   pub trace : List ℕ
-  pub whole : IsWholeText (default_rules journal) start ending trace
+  pub whole : IsWholeText (rules_under asked.settings journal) start ending trace
   pub told : AppendedFront before after trace

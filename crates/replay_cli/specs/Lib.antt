@@ -1,4 +1,5 @@
 pub mod Words
+pub mod Requests
 pub mod Journal
 pub mod Failures
 pub mod Headline

@@ -18,7 +18,8 @@ use Rattle.posix_model.specs.declared.Head.{Head}
 use Rattle.posix_model.specs.declared.Head.TheVariants.{Fault}
 use Rattle.posix_model.specs.declared.Move.{Move}
 use Rattle.replay_cli.specs.Addresses.{address_at}
-use Rattle.replay_cli.specs.Headline.{default_rules, IsStartOf}
+use Rattle.replay_cli.specs.Words.{Request}
+use Rattle.replay_cli.specs.Headline.{rules_under, IsStartOf}
 
 -- a blank, and a word in hexadecimal
 unfoldable pub hex_word : ℕ → List ℕ
@@ -96,20 +97,20 @@ fault_text now Budget = []
 unfoldable pub places_text : Moment → Ending → List ℕ
 places_text now ending = place_lines now.state ++ (fault_text now ending ++ end_text now ending)
 
--- where the threads stand at the end of a whole run from an image, under a journal, came after what was written before
-pub record TellsPlacesOf (image journal : List ℕ) (was now : Option (List ℕ)) : Type 0 where
+-- where the threads stand at the end of a whole run from an image, under a journal, as it is asked for, came after what was written before
+pub record TellsPlacesOf (asked : Request) (image journal : List ℕ) (was now : Option (List ℕ)) : Type 0 where
   pub start : Moment
-  pub of_image : IsStartOf image start
+  pub of_image : IsStartOf asked.memory image start
   pub moves : List Move
   pub ending : Ending
-  pub whole : IsWholeRun (default_rules journal) start moves ending
-  pub told : Appended was now (places_text (after (default_rules journal) start moves) ending)
+  pub whole : IsWholeRun (rules_under asked.settings journal) start moves ending
+  pub told : Appended was now (places_text (after (rules_under asked.settings journal) start moves) ending)
 
 -- a front of that came after what was written before
-pub record TellsFrontOf (image journal : List ℕ) (was now : Option (List ℕ)) : Type 0 where
+pub record TellsFrontOf (asked : Request) (image journal : List ℕ) (was now : Option (List ℕ)) : Type 0 where
   pub start : Moment
-  pub of_image : IsStartOf image start
+  pub of_image : IsStartOf asked.memory image start
   pub moves : List Move
   pub ending : Ending
-  pub whole : IsWholeRun (default_rules journal) start moves ending
-  pub told : AppendedFront was now (places_text (after (default_rules journal) start moves) ending)
+  pub whole : IsWholeRun (rules_under asked.settings journal) start moves ending
+  pub told : AppendedFront was now (places_text (after (rules_under asked.settings journal) start moves) ending)

@@ -1,18 +1,48 @@
--- The words that are accepted (this project's own rule).
-use Rattle.std.specs.Prelude.{ℕ, ◌==◌, ◌&&◌, not, List, [], Bool, codes, length, nat_eq, slice_index_or}
-use Rattle.std.specs.List.{starts_with}
+-- The words that are accepted, and the run that they ask for (this project's own rule).
+use Rattle.std.specs.Prelude.{ℕ, List, [], Bool, Option, Some, None, is_some, option_and_then}
+use Rattle.std.specs.Option.{unwrap_or}
+use Rattle.posix_model.specs.declared.Settings.{Settings}
+use Rattle.command_words.specs.Accepted.{Origin, named, generated, Settings as Options, accepted}
+use Rattle.command_words.specs.declared.options.Mode.{Mode}
+use Rattle.command_words.specs.declared.options.Mode.TheVariants.{Trace, Plain}
+
+-- a run that is asked for: the names of the image and of the journal, budget and quantum, and the size of memory
+pub record Request : Type 0 where
+  pub image : List ℕ
+  pub journal : List ℕ
+  pub settings : Settings
+  pub memory : ℕ
+
+-- a run of two names whose trace is written; plain text and generated pairs are not built yet
+abbrev pub built : Origin → Mode → Settings → ℕ → Option Request
+built (named image journal) Trace settings memory =
+    Some (record { image = image; journal = journal; settings = settings; memory = memory })
+built (named image journal) Plain settings memory = None
+built (generated seed) mode settings memory = None
+
+-- the run that options ask for
+abbrev pub request_in : Options → Option Request
+request_in o = built o.source o.mode (record { budget = o.budget; quantum = o.quantum }) o.memory
+
+-- the run that the words ask for; none exactly where they are refused
+unfoldable pub asked : List (List ℕ) → Option Request
+asked words = option_and_then request_in (accepted words)
+
+-- the words are accepted
+abbrev pub are_accepted : List (List ℕ) → Bool
+are_accepted words = is_some (asked words)
+
+-- no names, and no instructions
+abbrev pub no_request : Request
+no_request = record { image = []; journal = []; settings = record { budget = 0; quantum = 0 }; memory = 0 }
+
+-- what accepted words ask for
+abbrev pub request : List (List ℕ) → Request
+request words = unwrap_or (asked words) no_request
 
 -- the names of the image and of the journal
 abbrev pub image_name : List (List ℕ) → List ℕ
-image_name words = slice_index_or words 0 []
+image_name words = (request words).image
 
 abbrev pub journal_name : List (List ℕ) → List ℕ
-journal_name words = slice_index_or words 1 []
-
--- a word that would be an option
-abbrev pub is_option : List ℕ → Bool
-is_option word = starts_with nat_eq word (codes "-")
-
--- two words, and neither is an option
-abbrev pub are_accepted : List (List ℕ) → Bool
-are_accepted words = (length words == 2) && (not (is_option (image_name words)) && not (is_option (journal_name words)))
+journal_name words = (request words).journal

@@ -1,13 +1,13 @@
 //! The top calls: words, files and sinks in, a trace or the places of the threads and a status out.
 #![tactic(auto)]
 
-mod accepted;
 mod address;
 mod event;
 mod failure;
 mod journal;
 mod lines;
 mod places;
+mod request;
 mod top;
 
 pub use failure::{Failure, Status};

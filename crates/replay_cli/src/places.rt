@@ -1,10 +1,10 @@
-ghost use Rattle.std.specs.Prelude.{◌≡◌, ◌≢◌, ◌⊎◌, ◌↔◌, ◌++◌, true, false, codes, IfSome, IfErr, OnOk, List, ℕ, None, Some};
+ghost use Rattle.std.specs.Prelude.{◌≡◌, ◌≢◌, ◌⊎◌, ◌++◌, true, false, codes, IfSome, IfErr, OnOk, List, ℕ, None, Some};
 ghost use Rattle.replay_io.specs.Writing.{Writes};
 ghost use Rattle.posix_model.specs.Threads.{exists};
 ghost use Rattle.posix_model.specs.Trace.{end_text};
 ghost use Rattle.kernel_state.specs.Records.{thread_in};
 ghost use Rattle.process_engine.specs.Engine.{moment_of, position_of};
-ghost use Rattle.replay_cli.specs.Words.{are_accepted, image_name, journal_name};
+ghost use Rattle.replay_cli.specs.Words.{are_accepted, request, image_name, journal_name};
 ghost use Rattle.replay_cli.specs.Headline.{loaded};
 ghost use Rattle.replay_cli.specs.Causes.{IsJournal, Cause, Fails, IsSmooth};
 ghost use Rattle.replay_cli.specs.Places.{place_at, place_lines, faults_with, fault_of, fault_text, places_text, TellsPlacesOf, TellsFrontOf};
@@ -124,11 +124,11 @@ fn attempt_places<F: Files, O: Sink>(
 ) -> Result<(), Failure>
     ensures words { OnOk result (are_accepted words.now ≡ true) }
     ensures journal { OnOk result (IsJournal (F.content files.old (journal_name words.now))) }
-    ensures ran { OnOk result (IfSome (F.content files.old (image_name words.now)) (λ image. IfSome (F.content files.old (journal_name words.now)) (λ journal. TellsPlacesOf (loaded image) (loaded journal) (O.written out.old) (O.written out.new)))) }
+    ensures ran { OnOk result (IfSome (F.content files.old (image_name words.now)) (λ image. IfSome (F.content files.old (journal_name words.now)) (λ journal. TellsPlacesOf (request words.now) (loaded image) (loaded journal) (O.written out.old) (O.written out.new)))) }
     ensures kept { OnOk result (O.faults out.new ≡ O.faults out.old) }
     ensures cause { IfErr result (Cause words.now (F.content files.old) (F.faults files.old) (F.faults files.new) (O.faults out.old) (O.faults out.new)) }
     ensures nothing { IfErr result (λ f. f ≢ Failure.Output → out.new ≡ out.old) }
-    ensures front { IfErr result (λ f. f ≡ Failure.Output → IfSome (F.content files.old (image_name words.now)) (λ image. IfSome (F.content files.old (journal_name words.now)) (λ journal. TellsFrontOf (loaded image) (loaded journal) (O.written out.old) (O.written out.new)))) }
+    ensures front { IfErr result (λ f. f ≡ Failure.Output → IfSome (F.content files.old (image_name words.now)) (λ image. IfSome (F.content files.old (journal_name words.now)) (λ journal. TellsFrontOf (request words.now) (loaded image) (loaded journal) (O.written out.old) (O.written out.new)))) }
 {
     let mut process = match accept(alloc, words, files) {
         Ok(process) => process,
@@ -155,18 +155,19 @@ pub fn tell_places<F: Files, O: Sink, E: Sink>(
     // Where it ran, a whole run of the machine from the image's start, under the journal, leads to the moment whose
     // threads are told, and ends as is told. Under a journal without entries there is one such run, so it is the one
     // that `replay` makes.
-    ensures ran { result ≡ Status.Ran → IfSome (F.content files.old (image_name words.now)) (λ image. IfSome (F.content files.old (journal_name words.now)) (λ journal. TellsPlacesOf (loaded image) (loaded journal) (O.written out.old) (O.written out.new))) }
+    ensures ran { result ≡ Status.Ran → IfSome (F.content files.old (image_name words.now)) (λ image. IfSome (F.content files.old (journal_name words.now)) (λ journal. TellsPlacesOf (request words.now) (loaded image) (loaded journal) (O.written out.old) (O.written out.new))) }
     ensures accepted { result ≡ Status.Ran → IsJournal (F.content files.old (journal_name words.now)) }
     ensures kept { result ≡ Status.Ran → O.faults out.new ≡ O.faults out.old }
     ensures quiet { result ≡ Status.Ran → err.new ≡ err.old }
 
     // Each other status has its cause, and its line on `err`.
     ensures fails { (result ≡ Status.Ran) ⊎ Fails (codes "fsu_where") result (Cause words.now (F.content files.old) (F.faults files.old) (F.faults files.new) (O.faults out.old) (O.faults out.new)) (E.written err.old) (E.written err.new) (E.faults err.old) (E.faults err.new) }
-    ensures words { (result ≡ Status.Words) ↔ (are_accepted words.now ≡ false) }
+    ensures words { result ≡ Status.Words → are_accepted words.now ≡ false }
+    ensures refused { are_accepted words.now ≡ false → (result ≡ Status.Words) ⊎ (result ≡ Status.NoMemory) }
 
     // What stands in `out` afterwards.
     ensures nothing { result ≢ Status.Ran → result ≢ Status.WriteFault → out.new ≡ out.old }
-    ensures front { result ≡ Status.WriteFault → IfSome (F.content files.old (image_name words.now)) (λ image. IfSome (F.content files.old (journal_name words.now)) (λ journal. TellsFrontOf (loaded image) (loaded journal) (O.written out.old) (O.written out.new))) }
+    ensures front { result ≡ Status.WriteFault → IfSome (F.content files.old (image_name words.now)) (λ image. IfSome (F.content files.old (journal_name words.now)) (λ journal. TellsFrontOf (request words.now) (loaded image) (loaded journal) (O.written out.old) (O.written out.new))) }
 
     // Where all is accepted and nothing fails, it runs, or memory runs out.
     ensures complete { IsSmooth words.now (F.content files.old) (F.faults files.old) (F.faults files.new) (O.faults out.old) (O.faults out.new) → (result ≡ Status.Ran) ⊎ (result ≡ Status.NoMemory) }

@@ -16,6 +16,22 @@ fn refused<'a>(image: &'a [u8], err: &'a [u8]) -> Case<'a> {
     given(image, EMPTY, Status::Image, b"", err)
 }
 
+/// A case whose words are refused.
+fn words_refused<'a>(words: &'a [&'a str]) -> Case<'a> {
+    Case {
+        words,
+        ..given(&SMALLEST, EMPTY, Status::Words, b"", b"fsu_replay: words\n")
+    }
+}
+
+/// A case of the smallest image under these words, which runs.
+fn asked<'a>(words: &'a [&'a str], out: &'a [u8]) -> Case<'a> {
+    Case {
+        words,
+        ..given(&SMALLEST, EMPTY, Status::Ran, out, b"")
+    }
+}
+
 /// Writes a piece into bytes, as far as they go.
 fn put(bytes: &mut Vec<u8>, at: usize, piece: &[u8]) {
     for (i, byte) in piece.iter().enumerate() {
@@ -156,11 +172,7 @@ fn words_and_journals(rt: HostRuntime) -> Result<(), Fail> {
         &["image", "--steps"],
     ];
     for words in words {
-        let refused = Case {
-            words,
-            ..given(&SMALLEST, EMPTY, Status::Words, b"", b"fsu_replay: words\n")
-        };
-        check(&rt, alloc, &refused)?;
+        check(&rt, alloc, &words_refused(words))?;
     }
     let journals: [(&[u8], &[u8]); 3] = [
         (b"", b"fsu_replay: journal refused: Header\n"),
@@ -178,6 +190,66 @@ fn words_and_journals(rt: HostRuntime) -> Result<(), Fail> {
         )?;
     }
     Ok(())
+}
+
+#[test]
+fn options(rt: HostRuntime) -> Result<(), Fail> {
+    let alloc = rt.alloc();
+    let eight = b"run 1\ncall 1 64 1 65656 2 0 = 0 2\nout 1 1 6869\nend budget\n";
+    let rows: [(&[&str], &[u8]); 7] = [
+        (&["image", "journal", "--budget", "0"], b"end budget\n"),
+        (&["image", "journal", "--budget", "8"], eight),
+        (&["image", "--budget=9", "journal"], SMALLEST_TEXT),
+        (&["--quantum", "1", "image", "journal"], SMALLEST_TEXT),
+        (&["image", "journal", "--mem", "65536"], SMALLEST_TEXT),
+        (&["--mem=67108864", "--", "image", "journal"], SMALLEST_TEXT),
+        (
+            &[
+                "image",
+                "journal",
+                "--quantum=1000",
+                "--budget",
+                "1000000000",
+            ],
+            SMALLEST_TEXT,
+        ),
+    ];
+    for (words, out) in rows {
+        check(&rt, alloc, &asked(words, out))?;
+    }
+    let places = b"thread 1 ready pc 0x00010074 ra 0xffffffd0 sp 0x00020000\nend budget\n";
+    let words = ["image", "journal", "--budget=8", "--mem=65536"];
+    check_places(&rt, alloc, &asked(&words, places))
+}
+
+#[test]
+fn refused_options(rt: HostRuntime) -> Result<(), Fail> {
+    let alloc = rt.alloc();
+    let rows: [&[&str]; 12] = [
+        &["image", "journal", "--quantum", "0"],
+        &["image", "journal", "--budget", "1000000001"],
+        &["image", "journal", "--mem", "65537"],
+        &["image", "journal", "--budget", "09"],
+        &["image", "journal", "--budget", "9", "--budget", "9"],
+        &["a"],
+        &["a", "b", "--plain", "--steps"],
+        // plain text and generated pairs are not built yet
+        &["a", "b", "--plain"],
+        &["image", "journal", "--plain"],
+        &["--gen", "0"],
+        &["--gen", "0", "--budget", "9"],
+        &["--help"],
+    ];
+    for words in rows {
+        check(&rt, alloc, &words_refused(words))?;
+    }
+    // an image that begins where the least memory ends
+    let high = changed(alloc, &[(62, 2)])?;
+    let small = Case {
+        words: &["image", "journal", "--mem", "65536"],
+        ..refused(&high, b"fsu_replay: image refused: OutsideWindow 0\n")
+    };
+    check(&rt, alloc, &small)
 }
 
 #[test]

@@ -1,23 +1,23 @@
-ghost use Rattle.std.specs.Prelude.{◌≡◌, ◌≢◌, ◌<◌, ◌≤◌, ◌⊎◌, ◌↔◌, ◌+◌, true, false, [], codes, length, slice_index_or, take, IfSome, IfOk, IfErr, OnOk, List, ℕ, Option, Some, None};
+ghost use Rattle.std.specs.Prelude.{◌≡◌, ◌≢◌, ◌<◌, ◌≤◌, ◌⊎◌, ◌+◌, true, false, [], codes, length, slice_index_or, take, IfSome, IfOk, IfErr, OnOk, List, ℕ, Option, Some, None};
 ghost use Rattle.journal_text.specs.Refusals.{entries_of};
 ghost use Rattle.journal_text.specs.Valid as valid;
+ghost use Rattle.rv_exec.specs.Window.{IsMemorySize};
 ghost use Rattle.elf_image.specs.Refusal.{first_refusal};
 ghost use Rattle.replay_io.specs.Writing.{Rose};
 ghost use Rattle.posix_model.specs.Start as machine;
 ghost use Rattle.dispatcher.specs.Arriving.{AreSignals};
 ghost use Rattle.process_engine.specs.Engine.{moment_of, position_of};
-ghost use Rattle.replay_cli.specs.Words.{are_accepted, image_name, journal_name};
+ghost use Rattle.replay_cli.specs.Words.{are_accepted, request, image_name, journal_name};
 ghost use Rattle.replay_cli.specs.Journal.{first_refused};
 ghost use Rattle.replay_cli.specs.Failures.{status_of};
-ghost use Rattle.replay_cli.specs.Headline.{loaded, memory_size, default_rules, IsStartOf, WritesRunOf, WritesFrontOf};
+ghost use Rattle.replay_cli.specs.Headline.{loaded, rules_under, IsStartOf, WritesRunOf, WritesFrontOf};
 ghost use Rattle.replay_cli.specs.Causes.{IsImage, IsJournal, ImageCause, JournalCause, Cause, Tells, Fails, IsSmooth};
 
-use crate::accepted::are_accepted;
 use crate::failure::{Failure, Status};
 use crate::journal::read_accepted;
+use crate::request::read_request;
 use elf_image::EntryPoint;
 use journal_text::{Journal, JournalRefusal};
-use posix_model::Settings;
 use process_engine::{Process, WriteFault};
 use replay_io::{Files, LoadRefusal, Sink, Words};
 use rv_exec::Memory;
@@ -25,17 +25,8 @@ use std::alloc::Global;
 use thread_base::NoMemory;
 use trace_text::Mode;
 
-/// The bytes of the window.
-const MEMORY: u32 = 4_194_304;
-
 /// The most bytes of an image or a journal.
 const MOST: usize = 16_777_216;
-
-/// How many instructions a run may make, and how many ticks a turn of a thread lasts.
-const SETTINGS: Settings = Settings {
-    budget: 1_000_000,
-    quantum: 4,
-};
 
 /// The first bytes of what a name holds, with one more than an image or a journal may have.
 #[tactic(auto, unfolding(crate::specs::Headline::loaded))]
@@ -55,10 +46,16 @@ struct Program {
     entry: EntryPoint,
 }
 
-/// The program of an image, or why there is none.
-fn accept_image<F: Files>(alloc: Global, name: &str, files: &mut F) -> Result<Program, Failure>
-    ensures start { IfOk result (λ p. IfSome (F.content files.old name.now) (λ image. IsStartOf (loaded image) (machine.start p.mem p.entry.0))) }
-    ensures cause { IfErr result (ImageCause (F.content files.old name.now) (F.faults files.old name.now) (F.faults files.new name.now)) }
+/// The program of an image in a memory of this size, or why there is none.
+fn accept_image<F: Files>(
+    alloc: Global,
+    name: &str,
+    size: u32,
+    files: &mut F,
+) -> Result<Program, Failure>
+    requires { IsMemorySize size }
+    ensures start { IfOk result (λ p. IfSome (F.content files.old name.now) (λ image. IsStartOf size (loaded image) (machine.start p.mem p.entry.0))) }
+    ensures cause { IfErr result (ImageCause size (F.content files.old name.now) (F.faults files.old name.now) (F.faults files.new name.now)) }
     ensures same { (n : List ℕ) → F.content files.new n ≡ F.content files.old n }
     ensures later { (n : List ℕ) → F.faults files.old n ≤ F.faults files.new n }
 {
@@ -67,7 +64,7 @@ fn accept_image<F: Files>(alloc: Global, name: &str, files: &mut F) -> Result<Pr
         Err(LoadRefusal::Failed) => return Err(Failure::ImageFile),
         Err(LoadRefusal::NoMemory) => return Err(Failure::Memory),
     };
-    let Ok(mut mem) = Memory::new(alloc, MEMORY) else {
+    let Ok(mut mem) = Memory::new(alloc, size) else {
         return Err(Failure::Memory);
     };
     match elf_image::load(&image, &mut mem) {
@@ -98,7 +95,7 @@ fn accept_journal<F: Files>(alloc: Global, name: &str, files: &mut F) -> Result<
     }
 }
 
-/// Checks the words, loads and checks image and journal, and makes the process at the image's start; the first
+/// Reads the words, loads and checks image and journal, and makes the process at the image's start; the first
 /// thing that fails ends it.
 pub(crate) fn accept<F: Files>(
     alloc: Global,
@@ -107,25 +104,26 @@ pub(crate) fn accept<F: Files>(
 ) -> Result<Process, Failure>
     ensures words { OnOk result (are_accepted words.now ≡ true) }
     ensures journal { OnOk result (IsJournal (F.content files.old (journal_name words.now))) }
-    ensures start { IfOk result (λ p. IfSome (F.content files.old (image_name words.now)) (λ image. IsStartOf (loaded image) (moment_of p))) }
+    ensures start { IfOk result (λ p. IfSome (F.content files.old (image_name words.now)) (λ image. IsStartOf (request words.now).memory (loaded image) (moment_of p))) }
     ensures at_rest { IfOk result (λ p. (position_of p).telling ≡ None) }
-    ensures rules { IfOk result (λ p. IfSome (F.content files.old (journal_name words.now)) (λ journal. p.rules ≡ default_rules (loaded journal))) }
+    ensures rules { IfOk result (λ p. IfSome (F.content files.old (journal_name words.now)) (λ journal. p.rules ≡ rules_under (request words.now).settings (loaded journal))) }
     ensures cause { IfErr result (λ f. (a b : ℕ) → Cause words.now (F.content files.old) (F.faults files.old) (F.faults files.new) a b f) }
     ensures early { IfErr result (λ f. f ≢ Failure.Output) }
     ensures same { (n : List ℕ) → F.content files.new n ≡ F.content files.old n }
 {
-    if !are_accepted(words) {
-        return Err(Failure::Words);
-    }
-    let program = match accept_image(alloc, words.word(0), files) {
+    let request = match read_request(alloc, words) {
+        Ok(request) => request,
+        Err(failure) => return Err(failure),
+    };
+    let program = match accept_image(alloc, request.image.as_str(), request.memory, files) {
         Ok(program) => program,
         Err(failure) => return Err(failure),
     };
-    let journal = match accept_journal(alloc, words.word(1), files) {
+    let journal = match accept_journal(alloc, request.journal.as_str(), files) {
         Ok(journal) => journal,
         Err(failure) => return Err(failure),
     };
-    match Process::new(alloc, program.mem, program.entry, journal, SETTINGS) {
+    match Process::new(alloc, program.mem, program.entry, journal, request.settings) {
         Ok(process) => Ok(process),
         Err(NoMemory) => Err(Failure::Memory),
     }
@@ -140,11 +138,11 @@ fn attempt<F: Files, O: Sink>(
 ) -> Result<(), Failure>
     ensures words { OnOk result (are_accepted words.now ≡ true) }
     ensures journal { OnOk result (IsJournal (F.content files.old (journal_name words.now))) }
-    ensures ran { OnOk result (IfSome (F.content files.old (image_name words.now)) (λ image. IfSome (F.content files.old (journal_name words.now)) (λ journal. WritesRunOf (loaded image) (loaded journal) (O.written out.old) (O.written out.new)))) }
+    ensures ran { OnOk result (IfSome (F.content files.old (image_name words.now)) (λ image. IfSome (F.content files.old (journal_name words.now)) (λ journal. WritesRunOf (request words.now) (loaded image) (loaded journal) (O.written out.old) (O.written out.new)))) }
     ensures kept { OnOk result (O.faults out.new ≡ O.faults out.old) }
     ensures cause { IfErr result (Cause words.now (F.content files.old) (F.faults files.old) (F.faults files.new) (O.faults out.old) (O.faults out.new)) }
     ensures nothing { IfErr result (λ f. f ≢ Failure.Output → out.new ≡ out.old) }
-    ensures front { IfErr result (λ f. f ≡ Failure.Output → IfSome (F.content files.old (image_name words.now)) (λ image. IfSome (F.content files.old (journal_name words.now)) (λ journal. WritesFrontOf (loaded image) (loaded journal) (O.written out.old) (O.written out.new)))) }
+    ensures front { IfErr result (λ f. f ≡ Failure.Output → IfSome (F.content files.old (image_name words.now)) (λ image. IfSome (F.content files.old (journal_name words.now)) (λ journal. WritesFrontOf (request words.now) (loaded image) (loaded journal) (O.written out.old) (O.written out.new)))) }
     ensures same { (n : List ℕ) → F.content files.new n ≡ F.content files.old n }
 {
     let process = match accept(alloc, words, files) {
@@ -159,7 +157,7 @@ fn attempt<F: Files, O: Sink>(
 
 /// Replays the image under the journal that the words name: loads and checks both, and writes the trace of
 /// the run to `out`. Where it does not run to its end it writes one line to `err` and tells why by its
-/// status. Nothing but loading may find no memory, and then nothing was written to `out`.
+/// status. Nothing but reading the words and loading may find no memory, and then nothing was written to `out`.
 pub fn replay<F: Files, O: Sink, E: Sink>(
     alloc: Global,
     words: &Words,
@@ -169,22 +167,23 @@ pub fn replay<F: Files, O: Sink, E: Sink>(
 ) -> Status
     // Where it ran, what came to `out` is the text of one list of moves; that list is a run of the thread
     // machine from the image's start under the journal, and the last line names its ending.
-    ensures ran { result ≡ Status.Ran → IfSome (F.content files.old (image_name words.now)) (λ image. IfSome (F.content files.old (journal_name words.now)) (λ journal. WritesRunOf (loaded image) (loaded journal) (O.written out.old) (O.written out.new))) }
+    ensures ran { result ≡ Status.Ran → IfSome (F.content files.old (image_name words.now)) (λ image. IfSome (F.content files.old (journal_name words.now)) (λ journal. WritesRunOf (request words.now) (loaded image) (loaded journal) (O.written out.old) (O.written out.new))) }
     ensures accepted { result ≡ Status.Ran → IsJournal (F.content files.old (journal_name words.now)) }
     ensures kept { result ≡ Status.Ran → O.faults out.new ≡ O.faults out.old }
     ensures quiet { result ≡ Status.Ran → err.new ≡ err.old }
 
     // Each other status has its cause, and its line on `err`.
     ensures fails { (result ≡ Status.Ran) ⊎ Fails (codes "fsu_replay") result (Cause words.now (F.content files.old) (F.faults files.old) (F.faults files.new) (O.faults out.old) (O.faults out.new)) (E.written err.old) (E.written err.new) (E.faults err.old) (E.faults err.new) }
-    ensures words { (result ≡ Status.Words) ↔ (are_accepted words.now ≡ false) }
-    ensures read { result ≡ Status.ReadFault → Rose (F.faults files.old (image_name words.now)) (F.faults files.new (image_name words.now)) ⊎ (IsImage (F.content files.old (image_name words.now)) × Rose (F.faults files.old (journal_name words.now)) (F.faults files.new (journal_name words.now))) }
-    ensures image { result ≡ Status.Image → IfSome (F.content files.old (image_name words.now)) (λ image. first_refusal (loaded image) memory_size ≢ None) }
+    ensures words { result ≡ Status.Words → are_accepted words.now ≡ false }
+    ensures refused { are_accepted words.now ≡ false → (result ≡ Status.Words) ⊎ (result ≡ Status.NoMemory) }
+    ensures read { result ≡ Status.ReadFault → Rose (F.faults files.old (image_name words.now)) (F.faults files.new (image_name words.now)) ⊎ (IsImage (request words.now).memory (F.content files.old (image_name words.now)) × Rose (F.faults files.old (journal_name words.now)) (F.faults files.new (journal_name words.now))) }
+    ensures image { result ≡ Status.Image → IfSome (F.content files.old (image_name words.now)) (λ image. first_refusal (loaded image) (request words.now).memory ≢ None) }
     ensures journal { result ≡ Status.Journal → IfSome (F.content files.old (journal_name words.now)) (λ journal. first_refused (loaded journal) ≢ None) }
     ensures write { result ≡ Status.WriteFault → Rose (O.faults out.old) (O.faults out.new) }
 
     // What stands in `out` afterwards.
     ensures nothing { result ≢ Status.Ran → result ≢ Status.WriteFault → out.new ≡ out.old }
-    ensures front { result ≡ Status.WriteFault → IfSome (F.content files.old (image_name words.now)) (λ image. IfSome (F.content files.old (journal_name words.now)) (λ journal. WritesFrontOf (loaded image) (loaded journal) (O.written out.old) (O.written out.new))) }
+    ensures front { result ≡ Status.WriteFault → IfSome (F.content files.old (image_name words.now)) (λ image. IfSome (F.content files.old (journal_name words.now)) (λ journal. WritesFrontOf (request words.now) (loaded image) (loaded journal) (O.written out.old) (O.written out.new))) }
 
     // Where all is accepted and nothing fails, it runs, or memory runs out.
     ensures complete { IsSmooth words.now (F.content files.old) (F.faults files.old) (F.faults files.new) (O.faults out.old) (O.faults out.new) → (result ≡ Status.Ran) ⊎ (result ≡ Status.NoMemory) }
