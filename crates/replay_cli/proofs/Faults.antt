@@ -1,20 +1,20 @@
 -- When the instruction at which a thread stands faults, by its event.
-use Rattle.std.proofs.Common.{◌≡◌, ◌∙◌, ap, sym, refl, ℕ, ◌==◌, ◌&&◌, Bool, true, false, not, List, [], ◌∷◌, Option, Some, None}
+use Rattle.std.proofs.Common.{◌≡◌, ◌∙◌, ap, sym, refl, ℕ, Bool, List, [], ◌∷◌, Option, Some}
 use Rattle.std.specs.Prelude.{if◌then◌else◌}
 use Rattle.thread_base.specs.declared.frame.FrameKind.{FrameKind}
 use Rattle.thread_base.specs.declared.frame.FrameKind.TheVariants.{Handler as OfHandler, Cleanup as OfCleanup}
 use Rattle.rv_exec.specs.Meaning.{Effect, Goes, Calls, Faults, Returns, effect}
 use Rattle.rv_exec.specs.declared.Event.{Event}
-use Rattle.rv_exec.specs.declared.Event.TheVariants.{Next, Ecall, Fault, Return}
+use Rattle.rv_exec.specs.declared.Event.TheVariants.{Return}
 use Rattle.rv_exec.specs.declared.Special.{Special}
 use Rattle.rv_exec.specs.declared.Special.TheVariants.{Handler, Cleanup, Start}
-use Rattle.posix_model.specs.State.{State, Thread, Registers, Frame, Phase, Normal, Leaving, is_of_handler}
+use Rattle.posix_model.specs.State.{State, Registers, Frame, Phase, Normal, Leaving, is_of_handler}
 use Rattle.posix_model.specs.Changes.{Outcome, begun, set_thread}
 use Rattle.posix_model.specs.Deliveries.{faulted}
 use Rattle.posix_model.specs.Instructions.{by_effect, handler_returned, cleanup_returned, start_returned, returned, told_return, segmentation_fault, instruction}
 use Rattle.posix_model.specs.Reports.{nothing_told}
 use Rattle.kernel_state.specs.Records.{top_kind}
-use Rattle.replay_cli.specs.Events.{event_of, is_due, faults_by}
+use Rattle.replay_cli.specs.Events.{event_of, faults_by}
 use Rattle.replay_cli.specs.Places.{is_fault, faults_with}
 
 -- of a thread and a signal
