@@ -1,13 +1,7 @@
-//! Programs as tests, under journals of signals.
+//! Programs as tests, under journals of signals: where entries come.
 #![tactic(auto)]
 
-#[cfg(test)]
-mod handlers;
 #[cfg(test)]
 mod idle;
 #[cfg(test)]
 mod places;
-#[cfg(test)]
-mod recipients;
-#[cfg(test)]
-mod waits;
