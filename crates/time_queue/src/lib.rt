@@ -1,7 +1,8 @@
 //! The deadlines of the threads, on the tick clock.
 #![tactic(auto)]
 
-ghost use Rattle.std.specs.Prelude.{◌≡◌, ◌<◌, ◌≤◌, ◌+◌, ℕ, true, false, IfSome, IfNone};
+ghost use Rattle.std.specs.Prelude.{◌≡◌, ◌<◌, ◌-◌, ℕ, true, false, find, IfSome, IfNone};
+ghost use Rattle.std.specs.List.{range_with_len};
 ghost use Rattle.thread_base.specs.Maps.{put};
 ghost use Rattle.time_queue.specs.Deadlines.{deadlines, has_come, least_due};
 
@@ -54,18 +55,33 @@ impl TimeQueue {
             (λ t. (u : ℕ) → u < t → has_come now (deadlines self.now u) ≡ false) }
         ensures none { IfNone result ((u : ℕ) → has_come now (deadlines self.now u) ≡ false) }
     {
-        for i in 0..64 {
-            let t = Tid::at(i);
-            if self.is_due(t, now) {
-                return Some(t);
-            }
-        }
-        None
+        self.due_from(1, now)
     }
 
-    fn is_due(&self, t: Tid, now: u64) -> bool
-        ensures { result ≡ has_come now (deadlines self.now t) }
+    /// The lowest thread from a number on whose deadline is at most `now`; None exactly where there is none.
+    pub fn due_from(&self, number: u32, now: u64) -> Option<Tid>
+        ensures { result ≡ find (λ t. has_come now (deadlines self.now t)) (range_with_len number (65 - number)) }
     {
-        self.deadline(t).is_some_and(|deadline| deadline <= now)
+        match self.least_from(number, now) {
+            Some(found) => Tid::new(found),
+            None => None,
+        }
+    }
+
+    /// The lowest number from one on of a thread whose deadline is at most `now`, if there is one.
+    fn least_from(&self, number: u32, now: u64) -> Option<u32>
+        ensures { result ≡ find (λ t. has_come now (deadlines self.now t)) (range_with_len number (65 - number)) }
+    {
+        (number..65).find(|t| self.is_due(*t, now))
+    }
+
+    /// Whether the deadline of the thread of a number, if there is one, is at most `now`.
+    fn is_due(&self, number: u32, now: u64) -> bool
+        ensures { result ≡ has_come now (deadlines self.now number) }
+    {
+        match Tid::new(number) {
+            Some(t) => self.deadline(t).is_some_and(|deadline| deadline <= now),
+            None => false,
+        }
     }
 }

@@ -32,3 +32,23 @@ fn deadlines_are_set_and_cancelled(rt: HostRuntime) {
     assert_eq!(rt; queue.deadline(Tid::at(4)), Some(9));
     assert_eq!(rt; queue.due(20).map(Tid::number), Some(5));
 }
+
+#[test]
+fn later_due_threads_follow(rt: HostRuntime) {
+    let mut queue = TimeQueue::new();
+    queue.set(Tid::at(2), 5);
+    queue.set(Tid::at(63), 4);
+    for (number, due) in [
+        (0, Some(3)),
+        (3, Some(3)),
+        (4, Some(64)),
+        (64, Some(64)),
+        (65, None),
+    ] {
+        assert_eq!(rt;
+            queue.due_from(number, 5).map(Tid::number),
+            due,
+            "from {number}"
+        );
+    }
+}
