@@ -109,11 +109,11 @@ module _ (standing : ℕ → Standing) (mutexes : ℕ → Option Mutex) (t : ℕ
   conditions_apart conditions after before sound c = condition_apart c (conditions c) (after c) (before c) (sound c)
 
 -- a thread waits for a condition with a mutex, after the others
-pub condition_entered : (standing : ℕ → Standing) (mutexes : ℕ → Option Mutex) (t c m count : ℕ) (condition : Condition) → IsTid t → waits_on c (standing t) ≡ false
+pub condition_entered : (standing : ℕ → Standing) (mutexes : ℕ → Option Mutex) (t c m count : ℕ) (deadline : Option ℕ) (condition : Condition) → IsTid t → waits_on c (standing t) ≡ false
     → is_some (mutexes m) ≡ true → is_other m condition.mutex ≡ false
-    → IsSoundCondition standing mutexes c (Some condition) → IsSoundCondition (put standing t (Waits (Cond c m None count))) mutexes c (Some (entered_by t m condition))
-condition_entered standing mutexes t c m count condition range awake there free sound =
-    let st : Standing = Waits (Cond c m None count) in
+    → IsSoundCondition standing mutexes c (Some condition) → IsSoundCondition (put standing t (Waits (Cond c m deadline count))) mutexes c (Some (entered_by t m condition))
+condition_entered standing mutexes t c m count deadline condition range awake there free sound =
+    let st : Standing = Waits (Cond c m deadline count) in
     let ws = condition.waiters in
     record {
       within = sound.within;

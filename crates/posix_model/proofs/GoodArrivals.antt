@@ -1,8 +1,7 @@
 -- Whatever arrives keeps a good state good.
 use Rattle.std.proofs.Common.{◌≡◌, ◌≢◌, ◌∙◌, ap, sym, refl, subst, arith, ℕ, ◌+◌, ◌<◌, ◌≤◌, Bool, true, false, ◌&&◌, ◌||◌, eqb, List, [], ◌∷◌, ◌++◌, length, take, drop, Option, Some, None}
-use Rattle.std.specs.Prelude.{◌==◌, if◌then◌else◌, nat_le, min}
-use Rattle.std.specs.Option.{ForSome}
-use Rattle.std.proofs.lemmas.Bool.{eq-eqb, ne_eqb, leb-false, and_parts, or_left, or_right, false_from_ne_true}
+use Rattle.std.specs.Prelude.{◌^◌, ◌==◌, if◌then◌else◌, nat_le, min}
+use Rattle.std.proofs.lemmas.Bool.{eq-eqb, ne_eqb, and_parts, or_left, or_right, false_from_ne_true}
 use Rattle.thread_base.specs.Maps.{put}
 use Rattle.thread_base.specs.Orders.{is_in, IsOrder}
 use Rattle.thread_base.specs.Priority.{tids}
@@ -24,7 +23,7 @@ use Rattle.posix_model.specs.Good.{standings, IsGood, AreSoundWaits}
 use Rattle.posix_model.specs.declared.RetakeReply.{RetakeReply}
 use Rattle.posix_model.specs.declared.RetakeReply.TheVariants.{Answer}
 use Rattle.posix_model.specs.declared.Wait.TheVariants.{Cond, Sleep}
-use Rattle.posix_model.proofs.StandingLemmas.{never, for_none}
+use Rattle.posix_model.proofs.StandingLemmas.{never, for_none, is_later}
 use Rattle.posix_model.proofs.ListLemmas.{each_put, is_in_filter, IsOrder-tids}
 use Rattle.posix_model.proofs.GoodLemmas.{good_alike, good_set, good_to_end, chosen_ready}
 use Rattle.posix_model.proofs.GoodConditions.{good_wake}
@@ -42,10 +41,6 @@ wake_at now g t reply = wake_alike g (at_time now g.state) t reply ∙ sym (ap (
 -- the time of a wait has come
 abbrev is_late : ℕ → Standing → Bool
 is_late now st = has_come now (deadline_by (wait_of st))
-
--- where it has not come, it is later
-is_later : (now : ℕ) (o : Option ℕ) → has_come now o ≡ false → ForSome o (λ until. now < until)
-is_later now o h until e = leb-false until now (sym (ap (has_come now) e) ∙ h)
 
 late_there : (now : ℕ) (st : Standing) → is_late now st ≡ true → is_absent st ≡ false
 late_there now (Waits wait) h = refl
@@ -133,10 +128,18 @@ module _ (before : ℕ) where
       by true h =
           good_come rung 0 14 1
           (good_alike (at_time before g.state) rung.state refl good good.ready good.joining good.mutexes good.conditions waits
-          (record { later = for_none None (λ until. g.state.now < until) refl; heeded = good.signals.heeded }))
+          (record {
+            later = for_none None (λ until. g.state.now < until) refl;
+            soon = for_none None (λ until. until < g.state.now + 2 ^ 32) refl;
+            heeded = good.signals.heeded;
+          }))
       by false h =
           good_alike (at_time before g.state) g.state refl good good.ready good.joining good.mutexes good.conditions waits
-          (record { later = is_later g.state.now g.state.alarm h; heeded = good.signals.heeded })
+          (record {
+            later = is_later g.state.now g.state.alarm h;
+            soon = λ until e. let soon = good.signals.soon until e in omega (arith, soon, since);
+            heeded = good.signals.heeded;
+          })
 
 -- what a thread is charged leaves the time, and so do the waits that end
 charge_now : (quantum : ℕ) (s : State) (o : Option ℕ) → (charge quantum s o).now ≡ s.now

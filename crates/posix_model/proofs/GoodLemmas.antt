@@ -117,6 +117,7 @@ signals_put : (now : ℕ) (alarm : Option ℕ) (action : ℕ → Action) (counts
     → ((sig : ℕ) → ignores (action sig) sig ≡ true → f sig ≡ 0) → AreSoundSignals now alarm action (put counts place f)
 signals_put now alarm action counts sound place f heeded = record {
   later = sound.later;
+  soon = sound.soon;
   heeded = each_put (λ p (count : ℕ → ℕ). (sig : ℕ) → ignores (action sig) sig ≡ true → count sig ≡ 0) counts place f heeded (λ p ne. sound.heeded p);
 }
 

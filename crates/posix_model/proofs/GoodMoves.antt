@@ -1,6 +1,6 @@
 -- Each move keeps a good state good.
 use Rattle.std.proofs.Common.{◌≡◌, ◌≢◌, ◌∙◌, ap, refl, ℕ, ◌+◌, ◌<◌, Bool, true, false, arith, List, [], ◌∷◌, Option, Some, None, length}
-use Rattle.std.specs.Prelude.{◌&&◌, ◌||◌, not, if◌then◌else◌}
+use Rattle.std.specs.Prelude.{◌^◌, ◌&&◌, ◌||◌, not, if◌then◌else◌}
 use Rattle.std.proofs.lemmas.Bool.{ne_eqb, and_parts}
 use Rattle.thread_base.specs.Actions.{ignores}
 use Rattle.thread_base.specs.Maps.{put}
@@ -173,7 +173,11 @@ good_start memory entry =
       conditions = λ c.
           condition_idle standing no_mutexes c None (λ h. absurd (never false h refl)) (each_put (λ w st. waits_on c st ≡ false) (λ t. Absent) 1 Ready refl (λ w ne. refl)) refl refl;
       waits = each_put (λ w st. IsSoundWait 0 st) (λ t. Absent) 1 Ready (ready_wait 0) (λ w ne. absent_wait 0);
-      signals = record { later = for_none None (λ until. 0 < until) refl; heeded = λ place sig h. refl };
+      signals = record {
+        later = for_none None (λ until. 0 < until) refl;
+        soon = for_none None (λ until. until < 2 ^ 32) refl;
+        heeded = λ place sig h. refl;
+      };
     })
 
 pub instructions_keep_good : InstructionsKeepGood

@@ -1,12 +1,13 @@
 -- Refusals, answers and tables of calls keep a good state good.
-use Rattle.std.proofs.Common.{◌≡◌, refl, sym, subst, ℕ, Bool, true, false, List, [], ◌∷◌, ◌++◌, Option, Some, None}
-use Rattle.std.specs.Prelude.{◌==◌, if◌then◌else◌}
+use Rattle.std.proofs.Common.{◌≡◌, ◌<◌, refl, sym, subst, arith, ℕ, Bool, true, false, List, [], ◌∷◌, ◌++◌, Option, Some, None}
+use Rattle.std.specs.Prelude.{◌^◌, ◌==◌, if◌then◌else◌}
 use Rattle.std.specs.List.{AllByRecursion}
+use Rattle.std.proofs.lemmas.Nat.{mod_below}
 use Rattle.thread_base.specs.declared.Errno.{Errno}
 use Rattle.thread_base.specs.declared.Errno.TheVariants.{EINVAL}
 use Rattle.posix_model.specs.State.{State, is_ready}
 use Rattle.posix_model.specs.Good.{IsGood}
-use Rattle.posix_model.specs.Replies.{Called, Row, Entry, refused, refusing, row_of}
+use Rattle.posix_model.specs.Replies.{Called, Row, Entry, ticks_in, refused, refusing, row_of}
 use Rattle.posix_model.specs.declared.Arguments.{Arguments}
 use Rattle.posix_model.proofs.GoodLemmas.{good_reply}
 
@@ -46,6 +47,10 @@ good_lookup {A = A} look row none some s t c good ready = by (look s c.a0) refl
     by : (o : Option A) → look s c.a0 ≡ o → GoodCall (row s t c.a0 o)
     by None e = subst GoodCall (sym (none s t c.a0)) (good_refused s t EINVAL good)
     by (Some x) e = some s t c.a0 x good ready e
+
+-- an argument tells fewer than 2^32 ticks
+pub few_ticks : (argument : ℕ) → ticks_in argument < 2 ^ 32
+few_ticks argument = mod_below argument (2 ^ 32) (omega arith)
 
 -- the row of a number in a list of good rows, and in those after
 pub good_row_of : (number : ℕ) (entries others : List Entry) → AreGoodRows entries → IsGoodRow (row_of others number) → IsGoodRow (row_of (entries ++ others) number)

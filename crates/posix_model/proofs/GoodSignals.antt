@@ -47,6 +47,7 @@ good_with_action g sig action good = by (ignores action sig) refl
     by true ignored =
         good_alike g.state silent refl good good.ready good.joining good.mutexes good.conditions good.waits (record {
           later = good.signals.later;
+          soon = good.signals.soon;
           heeded = λ place.
               each_put (λ v n. ignores (put g.state.actions sig action v) v ≡ true → n ≡ 0) (g.state.pending place) sig 0 (λ h. refl)
               (λ v ne h. good.signals.heeded place v (sym (at_other (λ a. ignores a v) g.state.actions sig v action ne) ∙ h));
@@ -54,6 +55,7 @@ good_with_action g sig action good = by (ignores action sig) refl
     by false heeded =
         good_alike g.state acting refl good good.ready good.joining good.mutexes good.conditions good.waits (record {
           later = good.signals.later;
+          soon = good.signals.soon;
           heeded = λ place.
               each_put (λ v a. ignores a v ≡ true → g.state.pending place v ≡ 0) g.state.actions sig action
               (λ h. absurd (never (ignores action sig) h heeded)) (λ v ne h. good.signals.heeded place v h);

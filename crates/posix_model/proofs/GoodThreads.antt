@@ -10,9 +10,11 @@ use Rattle.rv_exec.specs.Window.{fits}
 use Rattle.posix_model.specs.State.{State, Standing, Phase, Normal, Leaving, Absent, Ended, MutexAt, ConditionAt, target, is_target, is_absent, is_ready, is_live, joins, no_thread}
 use Rattle.posix_model.specs.Changes.{begun, append, to_end, rescheduled, set_thread, await, exiting}
 use Rattle.posix_model.specs.Threads.{has_joiner, free_number, exists, new_thread}
-use Rattle.posix_model.specs.Calls.{most_written, written, write, exit, cannot_start, created, create, exit_thread, is_taken, join_by, join, detached_by, detach, self_number, yield, signal_calls, thread_calls, sync_calls, call_row}
+use Rattle.posix_model.specs.Calls.{most_written, written, write, exit, cannot_start, created, create, exit_thread, is_taken, join_by, join, detached_by, detach, self_number, yield, thread_calls, sync_calls, call_row}
+use Rattle.posix_model.specs.ClockCalls.{clock_calls}
 use Rattle.posix_model.specs.ConditionCalls.{condition_calls}
 use Rattle.posix_model.specs.MutexCalls.{mutex_calls}
+use Rattle.posix_model.specs.SignalCalls.{kill_calls}
 use Rattle.posix_model.specs.PriorityCalls.{cannot_schedule, setsched, schedule_word, getsched}
 use Rattle.posix_model.specs.Replies.{values}
 use Rattle.posix_model.specs.declared.Arguments.{Arguments}
@@ -24,6 +26,7 @@ use Rattle.posix_model.proofs.GoodReplies.{GoodCall, IsGoodRow, AreGoodRows, goo
 use Rattle.posix_model.proofs.GoodMutexes.{good_mutex_calls}
 use Rattle.posix_model.proofs.GoodConditions.{good_condition_calls}
 use Rattle.posix_model.proofs.GoodSignals.{good_kill_calls}
+use Rattle.posix_model.proofs.GoodClock.{good_clock_calls}
 
 good_write : IsGoodRow write
 good_write s t c good ready =
@@ -97,8 +100,8 @@ good_getsched s t c good ready =
     good_refusing s t ((not (is_live (standings s c.a0)), ESRCH) ∷ []) (values (begun s) t 0 (schedule_word (s.threads c.a0))) good (λ may.
     good_reply s t 0 (schedule_word (s.threads c.a0)) good)
 
-good_signal_calls : AreGoodRows signal_calls
-good_signal_calls = (good_write, good_kill_calls)
+good_output_calls : AreGoodRows ((64, write) ∷ kill_calls)
+good_output_calls = (good_write, good_kill_calls)
 
 good_thread_calls : AreGoodRows thread_calls
 good_thread_calls = (good_exit, (good_create, (good_exit_thread, (good_join_row, (good_detach, (good_self, (good_yield, (good_setsched, (good_getsched, tt)))))))))
@@ -106,8 +109,9 @@ good_thread_calls = (good_exit, (good_create, (good_exit_thread, (good_join_row,
 pub good_call : (s : State) (t number : ℕ) (c : Arguments) → IsGood s → is_ready (standings s t) ≡ true → GoodCall (call_row s t number c)
 unfolding call_row
 good_call s t number =
-    good_row_of number signal_calls (thread_calls ++ sync_calls) good_signal_calls
+    good_row_of number ((64, write) ∷ kill_calls) (clock_calls ++ thread_calls ++ sync_calls) good_output_calls
+    (good_row_of number clock_calls (thread_calls ++ sync_calls) good_clock_calls
     (good_row_of number thread_calls sync_calls good_thread_calls
     (good_row_of number mutex_calls condition_calls good_mutex_calls
-    (good_row_of number condition_calls [] good_condition_calls (λ r u c good ready. good_refused r u ENOSYS good))))
+    (good_row_of number condition_calls [] good_condition_calls (λ r u c good ready. good_refused r u ENOSYS good)))))
     s t

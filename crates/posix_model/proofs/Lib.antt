@@ -13,6 +13,7 @@ pub mod GoodMutexes
 pub mod WakeLemmas
 pub mod GoodDeliveries
 pub mod GoodSignals
+pub mod GoodClock
 pub mod GoodThreads
 pub mod GoodArrivals
 pub mod GoodMoves

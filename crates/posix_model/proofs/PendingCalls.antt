@@ -16,9 +16,10 @@ use Rattle.posix_model.specs.Arrivals.{dropped, come}
 use Rattle.posix_model.specs.Replies.{Called, Row, Entry, values, refused, refusing, row_of}
 use Rattle.posix_model.specs.Calls.{write, signal_calls, thread_calls, sync_calls, call_row}
 use Rattle.posix_model.specs.SignalCalls.{forgotten, with_action, number_of_action, action_of, is_action, sigaction, mask_by, sigmask, sent, can_send, kill_thread, kill_process}
+use Rattle.posix_model.specs.ClockCalls.{sleep, set_alarm, clock}
 use Rattle.posix_model.specs.declared.Arguments.{Arguments}
 use Rattle.posix_model.proofs.GoodReplies.{NoneHolds}
-use Rattle.posix_model.proofs.PendingLemmas.{either, IsCalm, calm_write, calm_others}
+use Rattle.posix_model.proofs.PendingLemmas.{either, IsCalm, calm_write, calm_sleep, calm_set_alarm, calm_clock, calm_others}
 use Rattle.posix_model.proofs.PendingCounts.{Adds, adds_stays, adds_before, adds_pend, adds_forgotten}
 
 -- a signal in scope that comes adds its count at most
@@ -100,7 +101,19 @@ adds_kill_process s t c =
     (λ may. adds_values s (sent s 0 c.a0) t 0 0 (adds_sent s 0 c.a0 (not-false (can_send c.a0) may.0)))
 
 adds_signal_calls : AreAdding signal_calls
-adds_signal_calls = (calm_adds write calm_write, (adds_sigaction, (adds_sigmask, (adds_kill_thread, (adds_kill_process, tt)))))
+adds_signal_calls = (
+  calm_adds write calm_write,
+  (
+    adds_sigaction,
+    (
+      adds_sigmask,
+      (
+        adds_kill_thread,
+        (adds_kill_process, (calm_adds sleep calm_sleep, (calm_adds set_alarm calm_set_alarm, (calm_adds clock calm_clock, tt)))),
+      ),
+    ),
+  ),
+)
 
 -- the row of a number in a list of such rows, and in those after
 adds_row_of : (number : ℕ) (entries others : List Entry) → AreAdding entries → IsAdding (row_of others number) → IsAdding (row_of (entries ++ others) number)

@@ -1,5 +1,5 @@
 -- What leaves all that pends, and the time: calls but those of signals, and the ends of waits.
-use Rattle.std.proofs.Common.{◌≡◌, ◌∙◌, refl, sym, ap, subst, ℕ, ◌-◌, Bool, true, false, not, List, [], ◌∷◌, ◌++◌, Option, Some, None, length}
+use Rattle.std.proofs.Common.{◌≡◌, ◌∙◌, refl, sym, ap, subst, ℕ, ◌+◌, ◌-◌, Bool, true, false, not, List, [], ◌∷◌, ◌++◌, Option, Some, None, length}
 use Rattle.std.specs.Prelude.{◌==◌, ◌||◌, if◌then◌else◌, min, is_some, nat_lt}
 use Rattle.std.specs.List.{AllByRecursion}
 use Rattle.std.proofs.lemmas.Bool.{or_parts}
@@ -17,16 +17,18 @@ use Rattle.posix_model.specs.Mutexes.{set_mutex, hand_off, best_waiter, give, re
 use Rattle.posix_model.specs.Threads.{exists, free_number}
 use Rattle.posix_model.specs.Conditions.{set_condition, is_other, is_used, leave, wake_from, wake, wake_all, in_order, next_woken}
 use Rattle.posix_model.specs.Scheduling.{eff}
-use Rattle.posix_model.specs.Replies.{Called, Row, Entry, values, refused, refusing, row_of}
+use Rattle.posix_model.specs.Arrivals.{has_come}
+use Rattle.posix_model.specs.Replies.{Called, Row, Entry, ticks_in, values, refused, refusing, blocked, row_of}
 use Rattle.posix_model.specs.Calls.{most_written, written, write, cannot_start, is_taken, created, create, join_by, join, detached_by, detach, thread_calls, sync_calls, call_row}
 use Rattle.posix_model.specs.MutexCalls.{new_mutex, cannot_init, is_checked, is_full, mutex_init, destroy_of, take, queue, is_open_to, lock_of, trylock_of, released, unlock_of, mutex_calls}
 use Rattle.posix_model.specs.PriorityCalls.{cannot_schedule, setsched, schedule_word, getsched}
-use Rattle.posix_model.specs.ConditionCalls.{await_condition, wait_and_release, cond_init, cond_destroy_of, cond_wait_of, wake_one, cond_signal_of, cond_broadcast_of, condition_calls}
+use Rattle.posix_model.specs.ConditionCalls.{await_condition, wait_and_release, await_back, time_out, wait_until, cond_init, cond_destroy_of, cond_wait_of, wake_one, cond_signal_of, cond_broadcast_of, condition_calls}
 use Rattle.posix_model.specs.SignalCalls.{kill_calls}
+use Rattle.posix_model.specs.ClockCalls.{sleep_for, sleep, set_alarm, clock, clock_calls}
 use Rattle.posix_model.specs.declared.Arguments.{Arguments}
 use Rattle.posix_model.specs.declared.RetakeReply.{RetakeReply}
 use Rattle.posix_model.specs.declared.RetakeReply.TheVariants.{Answer}
-use Rattle.posix_model.specs.declared.Wait.TheVariants.{Cond}
+use Rattle.posix_model.specs.declared.Wait.TheVariants.{Cond, Sleep}
 
 -- what pends, and the time
 abbrev pub pends_at : State → (ℕ → ℕ → ℕ) × ℕ
@@ -125,12 +127,25 @@ calm_cond_destroy_of : (s : State) (t c : ℕ) (o : Option Condition) → CallSt
 calm_cond_destroy_of s t c None = refl
 calm_cond_destroy_of s t c (Some condition) = calm_refusing s t ((not (is_nil condition.waiters), EBUSY) ∷ []) (values (begun (set_condition s c None)) t 0 0) refl
 
-calm_cond_wait_of : (s : State) (t c : ℕ) (condition : Option Condition) (m : ℕ) (mutex : Option Mutex) → CallStays s (cond_wait_of s t c condition m mutex)
-calm_cond_wait_of s t c None m mutex = refl
-calm_cond_wait_of s t c (Some condition) m None = refl
-calm_cond_wait_of s t c (Some condition) m (Some mutex) =
-    calm_refusing s t ((not (is_held_by mutex.holder t), EPERM) ∷ (is_other m condition.mutex, EINVAL) ∷ []) (wait_and_release s t c condition m mutex)
-    (calm_hand_off (begun (await_condition s t c condition m mutex)) m mutex (best_waiter s mutex))
+calm_await_back : (g : Outcome) (t m : ℕ) (o : Option Mutex) (count : ℕ) → Stays g.state (await_back g t m o count).state
+calm_await_back g t m None count = refl
+calm_await_back g t m (Some mutex) count = refl
+
+calm_time_out : (s : State) (t m : ℕ) (mutex : Mutex) (o : Option ℕ) → CallStays s (time_out s t m mutex o)
+calm_time_out s t m mutex None = refl
+calm_time_out s t m mutex (Some u) =
+    let passed : Outcome = hand_off (begun s) m mutex (Some u) in
+    calm_await_back passed t m (passed.state.mutexes m) (count_of mutex.holder)
+
+calm_cond_wait_of : (s : State) (t c : ℕ) (condition : Option Condition) (m : ℕ) (mutex : Option Mutex) (deadline : Option ℕ)
+    → CallStays s (cond_wait_of s t c condition m mutex deadline)
+calm_cond_wait_of s t c None m mutex deadline = refl
+calm_cond_wait_of s t c (Some condition) m None deadline = refl
+calm_cond_wait_of s t c (Some condition) m (Some mutex) deadline =
+    calm_refusing s t ((not (is_held_by mutex.holder t), EPERM) ∷ (is_other m condition.mutex, EINVAL) ∷ []) (wait_until s t c condition m mutex deadline)
+    (either (CallStays s) (has_come s.now deadline) (time_out s t m mutex (best_waiter s mutex)) (wait_and_release s t c condition m mutex deadline)
+    (calm_time_out s t m mutex (best_waiter s mutex))
+    (calm_hand_off (begun (await_condition s t c condition m mutex deadline)) m mutex (best_waiter s mutex)))
 
 calm_cond_signal_of : (s : State) (t : ℕ) (o : Option Condition) → CallStays s (cond_signal_of s t o)
 calm_cond_signal_of s t None = refl
@@ -205,14 +220,33 @@ calm_condition_calls = (
   (
     λ s t c. calm_cond_destroy_of s t c.a0 (s.conditions c.a0),
     (
-      λ s t c. calm_cond_wait_of s t c.a0 (s.conditions c.a0) c.a1 (s.mutexes c.a1),
+      λ s t c. calm_cond_wait_of s t c.a0 (s.conditions c.a0) c.a1 (s.mutexes c.a1) None,
       (
-        λ s t c. calm_cond_signal_of s t (s.conditions c.a0),
-        (λ s t c. calm_cond_broadcast_of s t (s.conditions c.a0), tt),
+        λ s t c. calm_cond_wait_of s t c.a0 (s.conditions c.a0) c.a1 (s.mutexes c.a1) (Some (ticks_in c.a2)),
+        (
+          λ s t c. calm_cond_signal_of s t (s.conditions c.a0),
+          (λ s t c. calm_cond_broadcast_of s t (s.conditions c.a0), tt),
+        ),
       ),
     ),
   ),
 )
+
+-- the calls of the clock
+calm_sleep_for : (s : State) (t ticks : ℕ) → CallStays s (sleep_for s t ticks)
+calm_sleep_for s t ticks = either (CallStays s) (ticks == 0) (values (begun s) t 0 0) (blocked s t (Sleep (s.now + ticks))) refl refl
+
+pub calm_sleep : IsCalm sleep
+calm_sleep s t c = calm_sleep_for s t (ticks_in c.a0)
+
+pub calm_set_alarm : IsCalm set_alarm
+calm_set_alarm s t c = refl
+
+pub calm_clock : IsCalm clock
+calm_clock s t c = refl
+
+calm_clock_calls : AreCalm clock_calls
+calm_clock_calls = (calm_sleep, (calm_set_alarm, (calm_clock, tt)))
 
 -- the calls of threads, of mutexes and of conditions leave both
 pub calm_others : (number : ℕ) → IsCalm (row_of (thread_calls ++ sync_calls) number)
@@ -238,6 +272,7 @@ unlisted number (entry ∷ entries) others s t c none =
 pub calls_leave_pending : (s : State) (t number : ℕ) (c : Arguments) → is_listed number kill_calls ≡ false → Stays s (call_row s t number c).outcome.state
 unfolding call_row
 calls_leave_pending s t number c none =
-    let others = thread_calls ++ sync_calls in
+    let others = clock_calls ++ thread_calls ++ sync_calls in
     either (CallStays s) (number == 64) (write s t c) (row_of (kill_calls ++ others) number s t c) (calm_write s t c)
-    (subst (CallStays s) (sym (unlisted number kill_calls others s t c none)) (calm_others number s t c))
+    (subst (CallStays s) (sym (unlisted number kill_calls others s t c none))
+    (calm_row_of number clock_calls (thread_calls ++ sync_calls) calm_clock_calls (calm_others number) s t c))

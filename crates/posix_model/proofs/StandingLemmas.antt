@@ -1,10 +1,11 @@
 -- What a thread's standing says of what it waits for.
-use Rattle.std.proofs.Common.{◌≡◌, ◌∙◌, ap, sym, refl, ℕ, ◌+◌, ◌^◌, ◌<◌, Bool, true, false, arith, Option, Some, None}
+use Rattle.std.proofs.Common.{◌≡◌, ◌∙◌, ap, sym, refl, subst, ℕ, ◌+◌, ◌^◌, ◌<◌, Bool, true, false, arith, Option, Some, None}
 use Rattle.std.specs.Prelude.{is_some}
 use Rattle.std.specs.Option.{ForSome}
-use Rattle.std.proofs.lemmas.Bool.{eqb-true}
+use Rattle.std.proofs.lemmas.Bool.{eqb-true, leb-false}
 pub use Rattle.thread_base.proofs.MapLemmas.{at_same, at_other, kept}
 use Rattle.posix_model.specs.State.{Standing, Absent, Ready, Waits, Ended, Target, Nothing, EndOf, MutexAt, ConditionAt, ASignal, ATime, Input, target, wait_of, is_target, is_absent, is_ready, is_live, joins, wants, waits_on, mutex_with, count_due, deadline_by, set_at}
+use Rattle.posix_model.specs.Arrivals.{has_come}
 use Rattle.posix_model.specs.Good.{IsCount, IsSoundWait}
 use Rattle.posix_model.specs.declared.Wait.TheVariants.{Cond}
 
@@ -83,6 +84,13 @@ once = (omega arith, omega arith)
 
 pub for_none : (o : Option ℕ) (P : ℕ → Type 0) → o ≡ None → ForSome o P
 for_none o P none x e = absurd (let f : None ≡ Some x = sym none ∙ e in cc)
+
+pub for_some : (n : ℕ) (P : ℕ → Type 0) → P n → ForSome (Some n) P
+for_some n P h x e = subst P (let same : n ≡ x = cc in same) h
+
+-- a time that has not come is later
+pub is_later : (now : ℕ) (o : Option ℕ) → has_come now o ≡ false → ForSome o (λ until. now < until)
+is_later now o h until e = leb-false until now (sym (ap (has_come now) e) ∙ h)
 
 -- what a thread waits for without a time and without a set of signals is sound, where the count is
 pub steady : (now : ℕ) (st : Standing) → IsCount (count_due st) → deadline_by (wait_of st) ≡ None → set_at (target st) ≡ None → IsSoundWait now st

@@ -11,6 +11,7 @@ use Rattle.posix_model.specs.MutexCalls.{mutex_calls}
 use Rattle.posix_model.specs.ConditionCalls.{condition_calls}
 use Rattle.posix_model.specs.PriorityCalls.{setsched, getsched}
 use Rattle.posix_model.specs.SignalCalls.{kill_calls}
+use Rattle.posix_model.specs.ClockCalls.{clock_calls}
 use Rattle.posix_model.specs.declared.Arguments.{Arguments}
 use Rattle.posix_model.specs.declared.Report.{Report}
 use Rattle.posix_model.specs.declared.Reply.TheVariants.{Exit as Exits, End}
@@ -102,9 +103,9 @@ self_number s t c = values (begun s) t 0 t
 abbrev pub yield : State → ℕ → Arguments → Called
 yield s t c = values (begun (to_end s t)) t 0 0
 
--- the calls of input, output and signals
+-- the calls of input, output, signals and the clock
 abbrev pub signal_calls : List Entry
-signal_calls = (64, write) ∷ kill_calls
+signal_calls = (64, write) ∷ kill_calls ++ clock_calls
 
 -- exit, and the calls of threads
 abbrev pub thread_calls : List Entry

@@ -172,7 +172,7 @@ abbrev pub Unknown : Type 0
 Unknown =
     (reply_of (call_row six_threads 1 261 (with_arguments 0 0 0 0)) ≡ Values 0 0)
     × (reply_of (call_row six_threads 1 17 (with_arguments 0 0 0 0)) ≡ Values 38 0)
-    × (reply_of (call_row six_threads 1 294 (with_arguments 0 0 0 0)) ≡ Values 38 0)
+    × (reply_of (call_row six_threads 1 295 (with_arguments 0 0 0 0)) ≡ Values 38 0)
 
 -- thread 1 is in its exit
 abbrev pub in_its_exit : State

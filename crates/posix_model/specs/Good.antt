@@ -88,9 +88,10 @@ pub record IsSoundWait (now : ℕ) (standing : Standing) : Type 0 where
 abbrev pub AreSoundWaits : ℕ → (ℕ → Standing) → Type 0
 AreSoundWaits now standing = (t : ℕ) → IsSoundWait now (standing t)
 
--- the alarm is still to come, and no count of an ignored signal pends (POSIX.1 alarm, SIG_IGN)
+-- the alarm is still to come and within 2^32 ticks, and no count of an ignored signal pends (POSIX.1 alarm, SIG_IGN)
 pub record AreSoundSignals (now : ℕ) (alarm : Option ℕ) (actions : ℕ → Action) (pending : ℕ → ℕ → ℕ) : Type 0 where
   pub later : ForSome alarm (λ until. now < until)
+  pub soon : ForSome alarm (λ until. until < now + 2 ^ 32)
   pub heeded : (place sig : ℕ) → ignores (actions sig) sig ≡ true → pending place sig ≡ 0
 
 -- a good state: the ready list, the numbers, the joins, the mutexes, the conditions, the waits and the signals are sound

@@ -10,11 +10,12 @@ pub mod Leaving
 pub mod Exits
 pub mod Replies
 pub mod Conditions
-pub mod ConditionCalls
 pub mod MutexCalls
 pub mod Deliveries
 pub mod Arrivals
+pub mod ConditionCalls
 pub mod SignalCalls
+pub mod ClockCalls
 pub mod PriorityCalls
 pub mod Calls
 pub mod Instructions
@@ -32,5 +33,6 @@ pub mod ConditionExamples
 pub mod SignalExamples
 pub mod ArrivalExamples
 pub mod KillExamples
+pub mod ClockExamples
 pub mod ExitExamples
 pub mod JournalExamples

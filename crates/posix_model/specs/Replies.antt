@@ -1,5 +1,5 @@
 -- How a call is answered: its arguments, its refusals in order, its reply (the packing is this project's own).
-use Rattle.std.specs.Prelude.{ℕ, ◌==◌, Bool, if◌then◌else◌, List, [], ◌∷◌, slice_index}
+use Rattle.std.specs.Prelude.{ℕ, ◌%◌, ◌^◌, ◌==◌, Bool, if◌then◌else◌, List, [], ◌∷◌, slice_index}
 use Rattle.thread_base.specs.Numbers.{code_of}
 use Rattle.thread_base.specs.declared.Errno.{Errno}
 use Rattle.thread_base.specs.declared.Errno.TheVariants.{ENOSYS}
@@ -17,6 +17,10 @@ arguments r = record { a0 = slice_index r.x 10; a1 = slice_index r.x 11; a2 = sl
 -- the number of a call, which stands in a7
 abbrev pub call_number : Registers → ℕ
 call_number r = slice_index r.x 17
+
+-- a number of ticks, or a time, in an argument: it has 32 bits (this project's own)
+abbrev pub ticks_in : ℕ → ℕ
+ticks_in argument = argument % 2 ^ 32
 
 -- a call made, and its reply
 pub record Called : Type 0 where

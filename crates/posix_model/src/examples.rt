@@ -8,6 +8,7 @@ ghost use Rattle.posix_model.specs.ConditionExamples as conditions;
 ghost use Rattle.posix_model.specs.SignalExamples as signals;
 ghost use Rattle.posix_model.specs.ArrivalExamples as arrivals;
 ghost use Rattle.posix_model.specs.KillExamples as kills;
+ghost use Rattle.posix_model.specs.ClockExamples as clocks;
 ghost use Rattle.posix_model.specs.ExitExamples as exits;
 ghost use Rattle.posix_model.specs.JournalExamples as journals;
 
@@ -244,6 +245,31 @@ pub fn sends()
 /// Which refusal of the calls of signals comes first.
 pub fn kill_refusals()
     ensures { kills.KillRefusals }
+{}
+
+/// A sleep of no ticks is over at once, and another waits.
+pub fn sleeps()
+    ensures { clocks.Sleeps }
+{}
+
+/// An alarm is set, set anew and cleared; what was left of the one before is answered.
+pub fn alarms()
+    ensures { clocks.Alarms }
+{}
+
+/// A wait for a condition until a time to come is one without a time, and has the same refusals.
+pub fn timed_waits()
+    ensures { clocks.TimedWaits }
+{}
+
+/// A wait whose time has passed lets a waiter have the mutex, and its caller waits to have it back.
+pub fn passed_on()
+    ensures { clocks.PassedOn }
+{}
+
+/// A wait whose time has passed keeps the mutex for which nobody waits.
+pub fn timed_out_at_once()
+    ensures { clocks.TimedOutAtOnce }
 {}
 
 /// A tick is charged to the thread that ran, before others wake, and never to a FIFO one.

@@ -18,6 +18,7 @@ use Rattle.posix_model.specs.Replies.{Called, Row, Entry, values, refused, refus
 use Rattle.posix_model.specs.Calls.{write, signal_calls, thread_calls, sync_calls, call_row}
 use Rattle.posix_model.specs.MutexCalls.{mutex_calls}
 use Rattle.posix_model.specs.ConditionCalls.{condition_calls}
+use Rattle.posix_model.specs.ClockCalls.{sleep, set_alarm, clock, clock_calls}
 use Rattle.posix_model.specs.SignalCalls.{forgotten, with_action, number_of_action, action_of, is_action, sigaction, mask_by, sigmask, sent as sent_by, can_send, kill_thread, kill_process}
 use Rattle.posix_model.specs.Good.{IsGood}
 use Rattle.posix_model.specs.declared.Arguments.{Arguments}
@@ -27,7 +28,7 @@ use Rattle.posix_model.proofs.GoodReplies.{NoneHolds}
 use Rattle.posix_model.proofs.PendingLemmas.{either}
 use Rattle.run_laws.specs.Ledger.{is_zero, sent, share, rung}
 use Rattle.run_laws.proofs.LedgerSums.{share_other, left_in, left_is, left_forgotten, drops_more}
-use Rattle.run_laws.proofs.LedgerCalls.{IsCalm, AreCalm, calm_write, calm_thread_calls, calm_mutex_calls, calm_condition_calls}
+use Rattle.run_laws.proofs.LedgerCalls.{IsCalm, AreCalm, calm_write, calm_sleep, calm_set_alarm, calm_clock, calm_thread_calls, calm_mutex_calls, calm_condition_calls}
 use Rattle.run_laws.proofs.LedgerEven.{bare_begun, is_bare, Even, none_rung, none_beside, none_dropped, even_bare, signal_comes}
 
 -- a refusal does not answer 0
@@ -164,8 +165,17 @@ module _ (sig : ℕ) (low : 1 ≤ sig) (high : sig ≤ 31) where
       let nothing = none_sent 287 c (Values 0 (s.threads t).mask) (λ args. refl) in
       omega (arith, even, nothing))
 
+  counts_clock_calls : EachCounts clock_calls
+  counts_clock_calls = (
+    calm_counts 292 sleep (λ args. refl) calm_sleep,
+    (calm_counts 293 set_alarm (λ args. refl) calm_set_alarm, (calm_counts 294 clock (λ args. refl) calm_clock, tt)),
+  )
+
   counts_signal_calls : EachCounts signal_calls
-  counts_signal_calls = (calm_counts 64 write (λ args. refl) calm_write, (counts_sigaction, (counts_sigmask, (counts_kill_thread, (counts_kill_process, tt)))))
+  counts_signal_calls = (
+    calm_counts 64 write (λ args. refl) calm_write,
+    (counts_sigaction, (counts_sigmask, (counts_kill_thread, (counts_kill_process, counts_clock_calls)))),
+  )
 
   -- rows that leave what a ledger reads, under numbers that send nothing
   calm_each : (entries : List Entry) → AllByRecursion (λ (entry : Entry). SendsNone entry.0) entries → AreCalm entries → EachCounts entries
@@ -190,5 +200,5 @@ module _ (sig : ℕ) (low : 1 ≤ sig) (high : sig ≤ 31) where
       counts_row_of number signal_calls (thread_calls ++ sync_calls) counts_signal_calls
       (counts_row_of number thread_calls sync_calls (calm_each thread_calls (λ args. refl, (λ args. refl, (λ args. refl, (λ args. refl, (λ args. refl, (λ args. refl, (λ args. refl, (λ args. refl, (λ args. refl, tt))))))))) calm_thread_calls)
       (counts_row_of number mutex_calls condition_calls (calm_each mutex_calls (λ args. refl, (λ args. refl, (λ args. refl, (λ args. refl, (λ args. refl, tt))))) calm_mutex_calls)
-      (counts_row_of number condition_calls [] (calm_each condition_calls (λ args. refl, (λ args. refl, (λ args. refl, (λ args. refl, (λ args. refl, tt))))) calm_condition_calls) (λ r u c good. counts_refused r u number c ENOSYS))))
+      (counts_row_of number condition_calls [] (calm_each condition_calls (λ args. refl, (λ args. refl, (λ args. refl, (λ args. refl, (λ args. refl, (λ args. refl, tt)))))) calm_condition_calls) (λ r u c good. counts_refused r u number c ENOSYS))))
       s t
