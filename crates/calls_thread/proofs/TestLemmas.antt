@@ -10,10 +10,10 @@ use Rattle.posix_model.proofs.GoodMoves.{goodness}
 use Rattle.kernel_state.specs.Begun.{HasRoom}
 use Rattle.kernel_state.proofs.StartLemmas.{start_room}
 
--- a thread that changes leaves what pends
+-- a thread that changes leaves what pends, and the time
 room_kept : (s : State) (t : ℕ) (thread : Thread) → HasRoom s → HasRoom (set_thread s t thread)
 unfolding pending_in_all
-room_kept s t thread room = room
+room_kept s t thread room = record { pends = room.pends; time = room.time }
 
 module _ (s : State) (memory : List ℕ) (entry : ℕ) (start : s ≡ start_state memory entry) (thread : Thread) where
   pub prepared_good : thread.standing ≡ (s.threads 1).standing → thread.detached ≡ (s.threads 1).detached → IsGood (set_thread s 1 thread)

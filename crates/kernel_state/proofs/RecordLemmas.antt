@@ -19,7 +19,9 @@ use Rattle.context_frames.specs.Contexts.{stack_of, top_of, below_top}
 use Rattle.context_frames.specs.declared.Frame.{Frame as KeptFrame}
 use Rattle.context_frames.specs.declared.Saved.{Saved}
 use Rattle.thread_signals.specs.SignalState.{state_of, next_in, free_in as free_by}
-use Rattle.posix_model.specs.State.{Thread, Registers, Frame, no_thread, is_absent, target, set_at}
+use Rattle.time_queue.specs.Deadlines.{deadlines as deadlines_of, has_come as is_over}
+use Rattle.posix_model.specs.State.{Thread, Registers, Frame, no_thread, is_absent, target, wait_of, set_at, deadline_by}
+use Rattle.posix_model.specs.Arrivals.{has_come}
 use Rattle.posix_model.specs.Deliveries.{may_take}
 use Rattle.posix_model.specs.declared.Wait.{Wait}
 use Rattle.kernel_state.specs.Records.{RecordsState, context_of, frame_of, frames_of, activities_of, contexts_of, masks_in, frames_in, threads_in, top_kind, next_signal, free_in, main_row, no_activity, first_threads, pending_in, has_thread, AreCached, standing_of, thread_by, thread_of, threads_of}
@@ -192,20 +194,24 @@ right_put read m threads t thread each u =
 
 pub cached_put : (r q : RecordsState) (t : ℕ) (thread : Thread) → AreCached r → threads_in q ≡ put (threads_in r) t thread
     → (state_of q.signals).waits ≡ put (state_of r.signals).waits t (set_at (target thread.standing))
-    → (state_of q.signals).is_open ≡ put (state_of r.signals).is_open t (may_take thread) → AreCached q
-cached_put r q t thread right threads waits is_open = record {
+    → (state_of q.signals).is_open ≡ put (state_of r.signals).is_open t (may_take thread)
+    → deadlines_of q.deadlines ≡ put (deadlines_of r.deadlines) t (deadline_by (wait_of thread.standing)) → AreCached q
+cached_put r q t thread right threads waits is_open deadlines = record {
   waits = λ u. ap (λ (f : ℕ → Option ℕ). f u) waits ∙ right_put (λ (x : Thread). set_at (target x.standing)) (state_of r.signals).waits (threads_in r) t thread right.waits u
       ∙ ap (λ (f : ℕ → Thread). set_at (target (f u).standing)) (sym threads);
   is_open = λ u. ap (λ (f : ℕ → Bool). f u) is_open ∙ right_put may_take (state_of r.signals).is_open (threads_in r) t thread right.is_open u
       ∙ ap (λ (f : ℕ → Thread). may_take (f u)) (sym threads);
+  deadlines = λ u. ap (λ (f : ℕ → Option ℕ). f u) deadlines ∙ right_put (λ (x : Thread). deadline_by (wait_of x.standing)) (deadlines_of r.deadlines) (threads_in r) t thread right.deadlines u
+      ∙ ap (λ (f : ℕ → Thread). deadline_by (wait_of (f u).standing)) (sym threads);
 }
 
 -- neither changes
 pub cached_still : (r q : RecordsState) → AreCached r → threads_in q ≡ threads_in r → (state_of q.signals).waits ≡ (state_of r.signals).waits
-    → (state_of q.signals).is_open ≡ (state_of r.signals).is_open → AreCached q
-cached_still r q right threads waits is_open = record {
+    → (state_of q.signals).is_open ≡ (state_of r.signals).is_open → deadlines_of q.deadlines ≡ deadlines_of r.deadlines → AreCached q
+cached_still r q right threads waits is_open deadlines = record {
   waits = λ u. ap (λ (f : ℕ → Option ℕ). f u) waits ∙ right.waits u ∙ ap (λ (f : ℕ → Thread). set_at (target (f u).standing)) (sym threads);
   is_open = λ u. ap (λ (f : ℕ → Bool). f u) is_open ∙ right.is_open u ∙ ap (λ (f : ℕ → Thread). may_take (f u)) (sym threads);
+  deadlines = λ u. ap (λ (f : ℕ → Option ℕ). f u) deadlines ∙ right.deadlines u ∙ ap (λ (f : ℕ → Thread). deadline_by (wait_of (f u).standing)) (sym threads);
 }
 
 -- ---- one thread as it is kept
@@ -300,22 +306,38 @@ next_is r eff key right same =
     (λ i. next_delivery (λ t. right.waits t i) (λ t sig. free_same r right t sig i) (state_of r.signals).counts eff)
     ∙ agree_next (λ t. set_at (target (threads_in r t).standing)) (free_in r) (state_of r.signals).counts eff key same
 
+-- ---- whose wait ends by itself
+
+over_come : (now : ℕ) (o : Option ℕ) → is_over now o ≡ has_come now o
+over_come now None = refl
+over_come now (Some until) = refl
+
+-- the threads by whose kept deadlines a time has come are those whose waits end then
+pub due_is : (r : RecordsState) (now : ℕ) (ts : List ℕ) → AreCached r
+    → find (λ t. is_over now (deadlines_of r.deadlines t)) ts ≡ find (λ t. has_come now (deadline_by (wait_of (threads_in r t).standing))) ts
+due_is r now ts right =
+    let each : (t : ℕ) → is_over now (deadlines_of r.deadlines t) ≡ has_come now (deadline_by (wait_of (threads_in r t).standing)) =
+    λ t. over_come now (deadlines_of r.deadlines t) ∙ ap (has_come now) (right.deadlines t) in
+    λ i. find (λ t. each t i) ts
+
 -- ---- an instruction of the thread in place
 
 by_row : (o : Option Row) (activity : Activity) (mask : ℕ) (frames : List Frame) (c d : Registers)
     → (set_at (target (thread_of o activity mask frames c).standing) ≡ set_at (target (thread_of o activity mask frames d).standing))
     × (may_take (thread_of o activity mask frames c) ≡ may_take (thread_of o activity mask frames d))
-by_row None activity mask frames c d = (refl, refl)
-by_row (Some row) activity mask frames c d = (refl, refl)
+    × (deadline_by (wait_of (thread_of o activity mask frames c).standing) ≡ deadline_by (wait_of (thread_of o activity mask frames d).standing))
+by_row None activity mask frames c d = (refl, refl, refl)
+by_row (Some row) activity mask frames c d = (refl, refl, refl)
 
--- other registers change nothing of what is kept for signals
+-- other registers change nothing of what is kept apart
 pub cached_executed : (r : RecordsState) (regs : Regs) → AreCached r → AreCached (record r { regs = regs })
 unfolding threads_in
 cached_executed r regs right =
-    record { waits = λ t. right.waits t ∙ (same t).0; is_open = λ t. right.is_open t ∙ (same t).1 }
+    record { waits = λ t. right.waits t ∙ (same t).0; is_open = λ t. right.is_open t ∙ (same t).1; deadlines = λ t. right.deadlines t ∙ (same t).2 }
   where
     same : (t : ℕ) → (set_at (target (threads_in r t).standing) ≡ set_at (target (threads_in (record r { regs = regs }) t).standing))
         × (may_take (threads_in r t) ≡ may_take (threads_in (record r { regs = regs }) t))
+        × (deadline_by (wait_of (threads_in r t).standing) ≡ deadline_by (wait_of (threads_in (record r { regs = regs }) t).standing))
     same t = by_row (rows r.rows t) (activities_of r.activities t) (masks_in r t) (frames_in r t) (contexts_of r t) (contexts_of (record r { regs = regs }) t)
 
 -- a stack without a top stays
@@ -348,8 +370,9 @@ first_shown r regs a b m f c =
     (λ i. thread_of (at_one i) (b i 1) (m i) (f i) (c i))
     (λ u ne i. thread_of (at_other u ne i) (activities_of r.activities u) (masks_in r u) (frames_in r u) (contexts_of r u))
 
-pub first_cached : (r : RecordsState) (regs : Registers) → threads_in r ≡ first_threads regs → (state_of r.signals).waits ≡ (λ t. None) → (state_of r.signals).is_open ≡ put (λ t. false) 1 true → AreCached r
-first_cached r regs threads waits opens =
+pub first_cached : (r : RecordsState) (regs : Registers) → threads_in r ≡ first_threads regs → (state_of r.signals).waits ≡ (λ t. None) → (state_of r.signals).is_open ≡ put (λ t. false) 1 true
+    → deadlines_of r.deadlines ≡ (λ t. None) → AreCached r
+first_cached r regs threads waits opens deadlines =
     let none : ℕ → Thread = λ t. no_thread in
     let main : Thread = thread_by main_row no_activity 0 [] regs in
     record {
@@ -360,4 +383,9 @@ first_cached r regs threads waits opens =
           ∙ ap (λ (f : ℕ → Thread). set_at (target (f u).standing)) (sym threads);
       is_open = λ u.
           ap (λ (f : ℕ → Bool). f u) opens ∙ right_put may_take (λ t. false) none 1 main (λ v. refl) u ∙ ap (λ (f : ℕ → Thread). may_take (f u)) (sym threads);
+      deadlines = λ u.
+          ap (λ (f : ℕ → Option ℕ). f u) deadlines
+          ∙ sym (ap (λ (f : ℕ → Option ℕ). f u) (put_got (λ t. None) 1))
+          ∙ right_put (λ (x : Thread). deadline_by (wait_of x.standing)) (λ t. None) none 1 main (λ v. refl) u
+          ∙ ap (λ (f : ℕ → Thread). deadline_by (wait_of (f u).standing)) (sym threads);
     }

@@ -1,5 +1,5 @@
 -- Each small change is small.
-use Rattle.std.proofs.Common.{◌≡◌, ◌≢◌, ◌∙◌, ap, sym, refl, subst, ℕ, eqb, Bool, true, false, not, List, [], ◌∷◌, ◌++◌, Option, Some, None, cond}
+use Rattle.std.proofs.Common.{◌≡◌, ◌≢◌, ◌∙◌, ap, sym, refl, subst, ℕ, ◌+◌, eqb, Bool, true, false, not, List, [], ◌∷◌, ◌++◌, Option, Some, None, cond}
 use Rattle.std.specs.Option.{IsNone}
 use Rattle.std.proofs.lemmas.Bool.{eq-eqb}
 use Rattle.std.specs.Prelude.{if◌then◌else◌}
@@ -22,10 +22,12 @@ use Rattle.posix_model.specs.Mutexes.{retake_of, give, requeue}
 use Rattle.posix_model.specs.Threads.{some_live}
 use Rattle.posix_model.specs.declared.Ending.TheVariants.{Exit}
 use Rattle.posix_model.specs.declared.RetakeReply.{RetakeReply}
-use Rattle.kernel_state.specs.Changing.{Can, CanMutex, CanCondition, CanThread, HasNoMutex, change_by, thread_change_by, signal_change_by, mutex_change_by, condition_change_by, remains_of}
-use Rattle.kernel_state.specs.Small.{Object, TheMutex, TheCondition, TheSignal, TheEnding, bare, IsSame, ThreadList, ReadyList, MutexWaiters, CondWaiters, threads_of_list, IsUnmoved, IsSmall}
+use Rattle.kernel_state.specs.Changing.{Can, CanMutex, CanCondition, CanThread, HasNoMutex, change_by, thread_change_by, signal_change_by, clock_change_by, mutex_change_by, condition_change_by, remains_of}
+use Rattle.kernel_state.specs.Small.{Object, TheMutex, TheCondition, TheSignal, TheClock, TheEnding, bare, IsSame, ThreadList, ReadyList, MutexWaiters, CondWaiters, threads_of_list, IsUnmoved, IsSmall}
 use Rattle.kernel_state.specs.declared.change.Change.{Change}
-use Rattle.kernel_state.specs.declared.change.Change.TheVariants.{Thread as OfThread, Mutex as OfMutex, Condition as OfCondition, Signal as OfSignal, Retake, Output, Over, Kill}
+use Rattle.kernel_state.specs.declared.change.Change.TheVariants.{Thread as OfThread, Mutex as OfMutex, Condition as OfCondition, Signal as OfSignal, Clock as OfClock, Retake, Output, Over, Kill}
+use Rattle.kernel_state.specs.declared.change.ClockChange.{ClockChange}
+use Rattle.kernel_state.specs.declared.change.ClockChange.TheVariants.{Advance, Set, Ring}
 use Rattle.kernel_state.specs.declared.change.ConditionChange.{ConditionChange}
 use Rattle.kernel_state.specs.declared.change.ConditionChange.TheVariants.{Make as MakeCondition, Destroy as DestroyCondition, Enter, Leave}
 use Rattle.kernel_state.specs.declared.change.MutexChange.{MutexChange}
@@ -33,7 +35,7 @@ use Rattle.kernel_state.specs.declared.change.MutexChange.TheVariants.{Make as M
 use Rattle.kernel_state.specs.declared.change.SignalChange.{SignalChange}
 use Rattle.kernel_state.specs.declared.change.SignalChange.TheVariants.{Pend, Take, Drop as DropAll, Lose, Act}
 use Rattle.kernel_state.specs.declared.change.ThreadChange.{ThreadChange}
-use Rattle.kernel_state.specs.declared.change.ThreadChange.TheVariants.{Reply, ToEnd, Create, StartExit, Await, Answer, Resume, Block, Handle, GoBack, Schedule, Detach, Free, End}
+use Rattle.kernel_state.specs.declared.change.ThreadChange.TheVariants.{Reply, ToEnd, Create, StartExit, Await, Answer, Resume, Block, Handle, GoBack, Schedule, Charge, Detach, Free, End}
 use Rattle.kernel_state.proofs.ViewLemmas.{gone_calmly}
 
 -- one thread is put in, taken out or moved
@@ -86,12 +88,16 @@ no_cond_waiters : (o : Option Condition) → IsNone o → cond_waiters o ≡ []
 no_cond_waiters None h = refl
 no_cond_waiters (Some condition) h = absurd (let e : true ≡ false = h in cc)
 
-still : (s : State) → IsUnmoved s s
-still s = (refl, refl, refl, refl, refl, refl)
+-- what no small change reaches is as it was, and so is the clock
+abbrev IsStill : State → State → Type 0
+IsStill s r = IsUnmoved s r × IsSame TheClock s r
+
+still : (s : State) → IsStill s s
+still s = ((refl, refl, refl, refl), (refl, refl))
 
 -- beside the record of a thread, its place in the ready list and the ending nothing changes
 small_thread : (s r : State) (t : ℕ) → ((u : ℕ) → u ≢ t → r.threads u ≡ s.threads u) → without t r.ready ≡ without t s.ready → r.mutexes ≡ s.mutexes → r.conditions ≡ s.conditions
-    → r.pending ≡ s.pending → r.actions ≡ s.actions → IsUnmoved s r → IsSmall s r
+    → r.pending ≡ s.pending → r.actions ≡ s.actions → IsStill s r → IsSmall s r
 small_thread s r t threads ready mutexes conditions pending actions others = record {
   thread = t;
   object = TheEnding;
@@ -101,13 +107,14 @@ small_thread s r t threads ready mutexes conditions pending actions others = rec
   objects = objects;
   lists = lists;
   place = ready;
-  others = others;
+  others = others.0;
 }
   where
     objects : (o : Object) → o ≢ TheEnding → IsSame o s r
     objects (TheMutex m) ne = ap (λ (f : ℕ → Option Mutex). with_waiters (λ ts. []) (f m)) mutexes
     objects (TheCondition c) ne = ap (λ (f : ℕ → Option Condition). bare (f c)) conditions
     objects (TheSignal sig) ne = (ap (λ (f : ℕ → Action). f sig) actions, λ u. ap (λ (f : ℕ → ℕ → ℕ). f u sig) pending)
+    objects TheClock ne = others.1
     objects TheEnding ne = absurd (ne refl)
 
     lists : (l : ThreadList) → l ≢ ReadyList → threads_of_list l r ≡ threads_of_list l s
@@ -127,7 +134,7 @@ small_mutex s m t threads o others place = record {
   objects = objects;
   lists = lists;
   place = ap (λ x. without t (waiters_in x)) (put_same s.mutexes m o) ∙ place;
-  others = still s;
+  others = (still s).0;
 }
   where
     r : State
@@ -137,6 +144,7 @@ small_mutex s m t threads o others place = record {
     objects (TheMutex k) ne = ap (with_waiters (λ ts. [])) (put_other s.mutexes m o k (λ e. ne (ap TheMutex e)))
     objects (TheCondition c) ne = refl
     objects (TheSignal sig) ne = (refl, λ u. refl)
+    objects TheClock ne = (refl, refl)
     objects TheEnding ne = refl
 
     lists : (l : ThreadList) → l ≢ MutexWaiters m → threads_of_list l r ≡ threads_of_list l s
@@ -156,7 +164,7 @@ small_condition s c t o place = record {
   objects = objects;
   lists = lists;
   place = ap (λ x. without t (cond_waiters x)) (put_same s.conditions c o) ∙ place;
-  others = still s;
+  others = (still s).0;
 }
   where
     r : State
@@ -166,6 +174,7 @@ small_condition s c t o place = record {
     objects (TheMutex m) ne = refl
     objects (TheCondition k) ne = ap bare (put_other s.conditions c o k (λ e. ne (ap TheCondition e)))
     objects (TheSignal sig) ne = (refl, λ u. refl)
+    objects TheClock ne = (refl, refl)
     objects TheEnding ne = refl
 
     lists : (l : ThreadList) → l ≢ CondWaiters c → threads_of_list l r ≡ threads_of_list l s
@@ -185,7 +194,7 @@ small_signal s sig pending actions others_pend others_act = record {
   objects = objects;
   lists = lists;
   place = refl;
-  others = still s;
+  others = (still s).0;
 }
   where
     r : State
@@ -195,6 +204,7 @@ small_signal s sig pending actions others_pend others_act = record {
     objects (TheMutex m) ne = refl
     objects (TheCondition c) ne = refl
     objects (TheSignal k) ne = (others_act k (λ e. ne (ap TheSignal e)), λ u. others_pend u k (λ e. ne (ap TheSignal e)))
+    objects TheClock ne = (refl, refl)
     objects TheEnding ne = refl
 
     lists : (l : ThreadList) → l ≢ ReadyList → threads_of_list l r ≡ threads_of_list l s
@@ -239,7 +249,7 @@ small_given s m t mutex h thread here = record {
   objects = objects;
   lists = lists;
   place = without_pushed t s.ready;
-  others = still s;
+  others = (still s).0;
 }
   where
     given : Option Mutex
@@ -252,6 +262,7 @@ small_given s m t mutex h thread here = record {
     objects (TheMutex k) ne = ap (with_waiters (λ ts. [])) (put_other s.mutexes m given k (λ e. ne (ap TheMutex e)))
     objects (TheCondition c) ne = refl
     objects (TheSignal sig) ne = (refl, λ u. refl)
+    objects TheClock ne = (refl, refl)
     objects TheEnding ne = refl
 
     lists : (l : ThreadList) → l ≢ ReadyList → threads_of_list l r ≡ threads_of_list l s
@@ -292,6 +303,7 @@ small_of_thread (Block mask) t g can = small_thread g.state _ t (λ u ne. put_ot
 small_of_thread (Handle signal at mask) t g can = small_thread g.state _ t (λ u ne. put_other g.state.threads t _ u ne) refl refl refl refl refl (still g.state)
 small_of_thread GoBack t g can = small_thread g.state _ t (λ u ne. put_other g.state.threads t _ u ne) refl refl refl refl refl (still g.state)
 small_of_thread (Schedule policy base) t g can = small_thread g.state _ t (λ u ne. put_other g.state.threads t _ u ne) (moved_where (is_ready (g.state.threads t).standing) t g.state.ready) refl refl refl refl (still g.state)
+small_of_thread Charge t g can = small_thread g.state _ t (λ u ne. put_other g.state.threads t _ u ne) refl refl refl refl refl (still g.state)
 small_of_thread Detach t g can = small_thread g.state _ t (λ u ne. put_other g.state.threads t _ u ne) refl refl refl refl refl (still g.state)
 small_of_thread Free t g can = small_thread g.state _ t (λ u ne. put_other g.state.threads t _ u ne) refl refl refl refl refl (still g.state)
 small_of_thread (End value joined) t g can = small_end g t (remains_of (g.state.threads t) value joined) can.1 can.2 can.3
@@ -313,11 +325,46 @@ small_of_condition DestroyCondition c s can = small_condition s c 0 _ (ap (witho
 small_of_condition (Enter t m) c s can = small_condition s c t _ (cond_entered t m (s.conditions c))
 small_of_condition (Leave t) c s can = small_condition s c t _ (cond_left t (s.conditions c))
 
+-- beside the clock with its alarm nothing changes
+small_clock : (s : State) (now : ℕ) (alarm : Option ℕ) → IsSmall s (record s { now = now; alarm = alarm })
+small_clock s now alarm = record {
+  thread = 0;
+  object = TheClock;
+  list = ReadyList;
+  placed = 0;
+  threads = λ u ne. refl;
+  objects = objects;
+  lists = lists;
+  place = refl;
+  others = (refl, refl, refl, refl);
+}
+  where
+    r : State
+    r = record s { now = now; alarm = alarm }
+
+    objects : (o : Object) → o ≢ TheClock → IsSame o s r
+    objects (TheMutex m) ne = refl
+    objects (TheCondition c) ne = refl
+    objects (TheSignal sig) ne = (refl, λ u. refl)
+    objects TheClock ne = absurd (ne refl)
+    objects TheEnding ne = refl
+
+    lists : (l : ThreadList) → l ≢ ReadyList → threads_of_list l r ≡ threads_of_list l s
+    lists ReadyList ne = refl
+    lists (MutexWaiters m) ne = refl
+    lists (CondWaiters c) ne = refl
+
+small_of_clock : (change : ClockChange) (g : Outcome) → IsSmall g.state (clock_change_by change g).state
+small_of_clock Advance g = small_clock g.state (g.state.now + 1) g.state.alarm
+small_of_clock (Set alarm) g = small_clock g.state g.state.now alarm
+small_of_clock Ring g = small_clock g.state g.state.now None
+
 pub small_change : (change : Change) (g : Outcome) → Can change g → IsSmall g.state (change_by change g).state
 small_change (OfThread t change) g can = small_of_thread change t g can
 small_change (OfMutex m change) g can = small_of_mutex change m g.state can
 small_change (OfCondition c change) g can = small_of_condition change c g.state can
 small_change (OfSignal sig change) g can = small_of_signal change sig g
+small_change (OfClock change) g can = small_of_clock change g
 small_change (Retake t m count reply) g can = small_retake g m t count reply (g.state.mutexes m) refl
 small_change (Output descriptor buffer size) g can = small_thread g.state g.state 0 (λ u ne. refl) refl refl refl refl refl (still g.state)
 small_change (Over ending) g can = small_thread g.state _ 0 (λ u ne. refl) refl refl refl refl refl (still g.state)

@@ -19,10 +19,10 @@ use Rattle.kernel_state.proofs.CurrentLemmas.{come_current}
 
 module _ {R : Type 0} (order : R → List ℕ) where
   pub view_start : (k : Tables R) (memory : List ℕ) (entry : ℕ) → threads_in k.records ≡ first_threads (start_registers (length memory) entry) → pending_in k.records ≡ none_pending
-      → actions_in k.records ≡ default_actions → order k.ready ≡ 1 ∷ [] → mutex_map k.mutexes ≡ (λ m. None) → condition_map k.conditions ≡ (λ c. None) → k.ticks ≡ 0 → k.memory ≡ memory → k.over ≡ None
+      → actions_in k.records ≡ default_actions → order k.ready ≡ 1 ∷ [] → mutex_map k.mutexes ≡ (λ m. None) → condition_map k.conditions ≡ (λ c. None) → k.ticks ≡ 0 → k.alarm ≡ None → k.memory ≡ memory → k.over ≡ None
       → view order k ≡ start_state memory entry
   unfolding view
-  view_start k memory entry a b c d h n w f g = λ i. record unkept {
+  view_start k memory entry a b c d h n w l f g = λ i. record unkept {
     threads = a i;
     ready = d i;
     mutexes = h i;
@@ -30,6 +30,7 @@ module _ {R : Type 0} (order : R → List ℕ) where
     actions = c i;
     pending = b i;
     now = w i;
+    alarm = l i;
     memory = f i;
     over = g i;
   }
@@ -52,7 +53,7 @@ start_listed memory entry =
     let here = put_same (λ t. no_thread) 1 (main_thread (length memory) entry) in
     (ap (λ (x : Thread). not (is_absent x.standing)) here, refl, ap (λ (x : Thread). is_ready x.standing) here)
 
--- nothing pends at the start
+-- nothing pends at the start, and no tick has come
 pub start_room : (memory : List ℕ) (entry : ℕ) → HasRoom (start_state memory entry)
 unfolding pending_in_all signals tids
-start_room memory entry = omega arith
+start_room memory entry = record { pends = omega arith; time = omega arith }

@@ -89,7 +89,7 @@ stands_on c m (Waits (Read buffer size)) h e = absurd (let f : false ≡ true = 
 stands_on c m (Ended value) h e = absurd (let f : false ≡ true = h in cc)
 
 -- a thread that waits for a condition is woken
-module _ (g : Outcome) (c m u : ℕ) (good : IsGood g.state) (waiting_on : WaitsOn g.state u c m) where
+module _ (g : Outcome) (c m u before : ℕ) (good : IsGood (record g.state { now = before })) (waiting_on : WaitsOn g.state u c m) where
   stands : (deadline : Option ℕ) × ((g.state.threads u).standing ≡ Waits (Cond c m deadline (count_due (g.state.threads u).standing)))
   stands = stands_on c m (g.state.threads u).standing waiting_on.waits waiting_on.beside
 
@@ -98,7 +98,7 @@ module _ (g : Outcome) (c m u : ℕ) (good : IsGood g.state) (waiting_on : Waits
 
   pub can_take_back : CanRetake u m (change_by (OfCondition c (Leave u)) g).state
   can_take_back = record {
-    there = mutex_there g.state u c m (count_due (g.state.threads u).standing) stands.0 good stands.1;
+    there = mutex_there (record g.state { now = before }) u c m (count_due (g.state.threads u).standing) stands.0 good stands.1;
     away = good.ready.listed u ∙ ap is_ready stands.1;
     live = ap is_live stands.1;
     free = λ taken k. (good.mutexes k).listed u ∙ ap (wants k) stands.1;

@@ -14,11 +14,12 @@ use Rattle.kernel_state.specs.declared.change.Change.{Change}
 use Rattle.kernel_state.specs.Kernels.{KernelState, remaining, IsIdle, owed_by}
 use Rattle.kernel_state.specs.Moves.{InProgress}
 
--- what pends is far below the limit of its sum
-abbrev pub HasRoom : State → Type 0
-HasRoom s = pending_in_all s < 2 ^ 62
+-- what pends is far below the limit of its sum, and the time below that of a call's answer
+pub record HasRoom (s : State) : Type 0 where
+  pub pends : pending_in_all s < 2 ^ 62
+  pub time : s.now < 2 ^ 31
 
--- an instruction of the thread may begin a move: none is in progress, the process is not over, what pends leaves room for
+-- an instruction of the thread may begin a move: none is in progress, the process is not over, what pends and the time leave room for
 -- more, and the thread is the chosen one
 pub record CanBegin {R : Type 0} (order : R → List ℕ) (k : KernelState R) (t : ℕ) : Type 0 where
   pub idle : IsIdle k
@@ -26,8 +27,8 @@ pub record CanBegin {R : Type 0} (order : R → List ℕ) (k : KernelState R) (t
   pub few : HasRoom (view order k.tables)
   pub first : chosen (view order k.tables) ≡ Some t
 
--- what small changes are noted on: no move is in progress and nothing is told, the state is good, what pends leaves room
--- for more, and the thread is ready
+-- what small changes are noted on: no move is in progress and nothing is told, the state is good, what pends and the time
+-- leave room for more, and the thread is ready
 pub record CanNote {R : Type 0} (order : R → List ℕ) (k : KernelState R) (t : ℕ) : Type 0 where
   pub idle : IsIdle k
   pub untold : k.tables.report ≡ nothing_told

@@ -19,7 +19,9 @@ use Rattle.thread_signals.specs.Counts.{place_of}
 use Rattle.kernel_state.specs.Records.{left}
 use Rattle.kernel_state.specs.declared.change.Beginning.{Beginning}
 use Rattle.kernel_state.specs.declared.change.Change.{Change}
-use Rattle.kernel_state.specs.declared.change.Change.TheVariants.{Thread as OfThread, Mutex as OfMutex, Condition as OfCondition, Signal as OfSignal, Retake, Output, Over, Kill}
+use Rattle.kernel_state.specs.declared.change.Change.TheVariants.{Thread as OfThread, Mutex as OfMutex, Condition as OfCondition, Signal as OfSignal, Clock as OfClock, Retake, Output, Over, Kill}
+use Rattle.kernel_state.specs.declared.change.ClockChange.{ClockChange}
+use Rattle.kernel_state.specs.declared.change.ClockChange.TheVariants.{Advance, Set, Ring}
 use Rattle.kernel_state.specs.declared.change.ConditionChange.{ConditionChange}
 use Rattle.kernel_state.specs.declared.change.ConditionChange.TheVariants.{Make as MakeCondition, Destroy as DestroyCondition, Enter, Leave}
 use Rattle.kernel_state.specs.declared.change.MutexChange.{MutexChange}
@@ -27,7 +29,7 @@ use Rattle.kernel_state.specs.declared.change.MutexChange.TheVariants.{Make as M
 use Rattle.kernel_state.specs.declared.change.SignalChange.{SignalChange}
 use Rattle.kernel_state.specs.declared.change.SignalChange.TheVariants.{Pend, Take, Drop as DropAll, Lose, Act}
 use Rattle.kernel_state.specs.declared.change.ThreadChange.{ThreadChange}
-use Rattle.kernel_state.specs.declared.change.ThreadChange.TheVariants.{Reply, ToEnd, Create, StartExit, Await, Answer, Resume, Block, Handle, GoBack, Schedule, Detach, Free, End}
+use Rattle.kernel_state.specs.declared.change.ThreadChange.TheVariants.{Reply, ToEnd, Create, StartExit, Await, Answer, Resume, Block, Handle, GoBack, Schedule, Charge, Detach, Free, End}
 
 -- a new thread
 abbrev pub begun_thread : Beginning → Thread
@@ -70,6 +72,7 @@ thread_change_by (Block mask) t g = record g { state = set_thread g.state t (rec
 thread_change_by (Handle signal at mask) t g = record g { state = set_thread g.state t (in_handler (g.state.threads t) signal at mask) }
 thread_change_by GoBack t g = record g { state = set_thread g.state t (left (g.state.threads t)) }
 thread_change_by (Schedule policy base) t g = record g { state = rescheduled g.state t policy base }
+thread_change_by Charge t g = record g { state = set_thread g.state t (record (g.state.threads t) { used = (g.state.threads t).used + 1 }) }
 thread_change_by Detach t g = record g { state = set_thread g.state t (record (g.state.threads t) { detached = true }) }
 thread_change_by Free t g = record g { state = set_thread g.state t no_thread }
 thread_change_by (End value joined) t g = ended g t (remains_of (g.state.threads t) value joined) (g.state.pending t) value
@@ -97,12 +100,19 @@ signal_change_by (DropAll place) signal g = dropped (record g { state = set_pend
 signal_change_by (Lose count) signal g = dropped g signal count
 signal_change_by (Act action) signal g = with_action g signal action
 
+-- what a change of the clock makes of the machine and of what is told (POSIX.1 alarm; the ticks are this project's own)
+abbrev pub clock_change_by : ClockChange → Outcome → Outcome
+clock_change_by Advance g = record g { state = record g.state { now = g.state.now + 1 } }
+clock_change_by (Set alarm) g = record g { state = record g.state { alarm = alarm } }
+clock_change_by Ring g = record { state = record g.state { alarm = None }; report = record g.report { alarm = true } }
+
 -- what a small change makes of the machine and of what is told
 abbrev pub change_by : Change → Outcome → Outcome
 change_by (OfThread t change) g = thread_change_by change t g
 change_by (OfMutex m change) g = record g { state = set_mutex g.state m (mutex_change_by change (g.state.mutexes m)) }
 change_by (OfCondition c change) g = record g { state = set_condition g.state c (condition_change_by change (g.state.conditions c)) }
 change_by (OfSignal signal change) g = signal_change_by change signal g
+change_by (OfClock change) g = clock_change_by change g
 change_by (Retake t m count reply) g = retake g m t count reply
 change_by (Output descriptor buffer length) g = record g { report = record g.report { out_fd = descriptor; out_buf = buffer; out_len = length } }
 change_by (Over ending) g = record g { state = record g.state { over = Some ending } }
@@ -137,6 +147,7 @@ CanThread (Block mask) t s = exists s t ≡ true
 CanThread (Handle signal at mask) t s = (exists s t ≡ true) × (length (s.threads t).frames < most_frames)
 CanThread GoBack t s = exists s t ≡ true
 CanThread (Schedule policy base) t s = (exists s t ≡ true) × (is_in t s.ready ≡ is_ready (s.threads t).standing)
+CanThread Charge t s = (exists s t ≡ true) × ((s.threads t).used + 1 < 2 ^ 32)
 CanThread Detach t s = exists s t ≡ true
 CanThread Free t s = (exists s t ≡ true) × (is_in t s.ready ≡ false)
 CanThread (End value joined) t s = IsListed s t × ((sig : ℕ) → s.pending t sig ≡ 0) × HasNoMutex s t × (s.keys ≡ no_keys)
@@ -169,6 +180,12 @@ CanSignal (DropAll place) signal g = HasDroppedNone signal g
 CanSignal (Lose count) signal g = HasDroppedNone signal g
 CanSignal (Act action) signal g = HasDroppedNone signal g
 
+-- when a change of the clock may be made: the time fits
+abbrev pub CanClock : ClockChange → State → Type 0
+CanClock Advance s = s.now + 1 < 2 ^ 63
+CanClock (Set alarm) s = Unit {0}
+CanClock Ring s = Unit {0}
+
 -- a thread may take a mutex back: it has not ended and is not ready, the mutex is there, and where it is not free the
 -- thread waits for no mutex
 pub record CanRetake (t m : ℕ) (s : State) : Type 0 where
@@ -183,6 +200,7 @@ Can (OfThread t change) g = CanThread change t g.state
 Can (OfMutex m change) g = CanMutex change m g.state.mutexes
 Can (OfCondition c change) g = CanCondition change c g.state.conditions
 Can (OfSignal signal change) g = CanSignal change signal g
+Can (OfClock change) g = CanClock change g.state
 Can (Retake t m count reply) g = CanRetake t m g.state
 Can (Output descriptor buffer size) g = IsTrue (is_inside (length g.state.memory) buffer size)
 Can (Over ending) g = Unit {0}

@@ -15,7 +15,9 @@ use Rattle.context_frames.specs.declared.Frame.{Frame as KeptFrame}
 use Rattle.context_frames.specs.declared.Saved.{Saved}
 use Rattle.context_frames.specs.declared.Saved.TheVariants.{User, Tail, Fresh}
 use Rattle.thread_signals.specs.SignalState.{Table, state_of}
-use Rattle.posix_model.specs.State.{Thread, Registers, Frame, Phase, Normal, Leaving, Cancellation, Standing, Ready, Waits, Ended, no_thread, first_cancellation, is_absent, is_of_handler, target, set_at}
+use Rattle.time_queue.specs.Deadlines.{deadlines as deadlines_of}
+use Rattle.time_queue.specs.declared.TimeQueue.{TimeQueue}
+use Rattle.posix_model.specs.State.{Thread, Registers, Frame, Phase, Normal, Leaving, Cancellation, Standing, Ready, Waits, Ended, no_thread, first_cancellation, is_absent, is_of_handler, target, wait_of, set_at, deadline_by}
 use Rattle.posix_model.specs.Changes.{no_cancellation}
 use Rattle.posix_model.specs.Deliveries.{may_take}
 use Rattle.posix_model.specs.declared.Wait.{Wait}
@@ -23,13 +25,14 @@ use Rattle.kernel_state.specs.declared.activity.Activity.{Activity}
 use Rattle.kernel_state.specs.declared.activity.Activities.{Activities}
 use Rattle.kernel_state.specs.declared.records.ThreadRecord.{ThreadRecord}
 
--- rows, waits and exits, frames and saved contexts, masks with all that signals need, and the registers in place with
--- their thread
+-- rows, waits and exits, frames and saved contexts, masks with all that signals need, deadlines, and the registers in
+-- place with their thread
 pub record RecordsState : Type 0 where
   pub rows : Threads
   pub activities : Activities
   pub frames : Contexts
   pub signals : Table
+  pub deadlines : TimeQueue
   pub regs : Regs
   pub placed : ℕ
 
@@ -144,10 +147,12 @@ main_row = record { base = 8; policy = Other; used = 0; detached = false; joiner
 abbrev pub first_threads : Registers → ℕ → Thread
 first_threads registers = put (λ t. no_thread) 1 (thread_by main_row no_activity 0 [] registers)
 
--- what is kept for signals of what each thread is doing is right: what it waits for, and whether it may take signals
+-- what is kept apart of what each thread is doing is right: for signals what it waits for and whether it may take signals,
+-- and when its wait ends by itself
 pub record AreCached (r : RecordsState) : Type 0 where
   pub waits : (t : ℕ) → (state_of r.signals).waits t ≡ set_at (target (threads_in r t).standing)
   pub is_open : (t : ℕ) → (state_of r.signals).is_open t ≡ may_take (threads_in r t)
+  pub deadlines : (t : ℕ) → deadlines_of r.deadlines t ≡ deadline_by (wait_of (threads_in r t).standing)
 
 -- what pends and the actions are as they were
 abbrev pub SameSignals : RecordsState → RecordsState → Type 0

@@ -5,11 +5,13 @@ use Rattle.thread_base.specs.Objects.{with_waiters, waiters_in, cond_waiters}
 use Rattle.thread_base.specs.Orders.{without}
 use Rattle.posix_model.specs.State.{State, Condition}
 
--- an object: a mutex or a condition, each without its waiters, what pends of a signal with its action, or how the process ended
+-- an object: a mutex or a condition, each without its waiters, what pends of a signal with its action, the clock with its alarm,
+-- or how the process ended
 pub data Object : Type 0 where
   TheMutex : (mutex : ℕ) → Object
   TheCondition : (cond : ℕ) → Object
   TheSignal : (signal : ℕ) → Object
+  TheClock : Object
   TheEnding : Object
 
 -- a condition without its waiters
@@ -22,6 +24,7 @@ abbrev pub IsSame : Object → State → State → Type 0
 IsSame (TheMutex m) s r = with_waiters (λ ts. []) (r.mutexes m) ≡ with_waiters (λ ts. []) (s.mutexes m)
 IsSame (TheCondition c) s r = bare (r.conditions c) ≡ bare (s.conditions c)
 IsSame (TheSignal sig) s r = (r.actions sig ≡ s.actions sig) × ((t : ℕ) → r.pending t sig ≡ s.pending t sig)
+IsSame TheClock s r = (r.now ≡ s.now) × (r.alarm ≡ s.alarm)
 IsSame TheEnding s r = r.over ≡ s.over
 
 -- a list of threads: the ready list, or those that wait for a mutex or a condition
@@ -36,11 +39,10 @@ threads_of_list ReadyList s = s.ready
 threads_of_list (MutexWaiters m) s = waiters_in (s.mutexes m)
 threads_of_list (CondWaiters c) s = cond_waiters (s.conditions c)
 
--- what no small change reaches is as it was: keys, time, alarm, input and memory
+-- what no small change reaches is as it was: keys, input and memory
 abbrev pub IsUnmoved : State → State → Type 0
 IsUnmoved s r =
-    (r.keys ≡ s.keys) × (r.now ≡ s.now) × (r.alarm ≡ s.alarm)
-    × (r.input ≡ s.input) × (r.is_input_over ≡ s.is_input_over) × (r.memory ≡ s.memory)
+    (r.keys ≡ s.keys) × (r.input ≡ s.input) × (r.is_input_over ≡ s.is_input_over) × (r.memory ≡ s.memory)
 
 -- from one state to another there is one small change: beside the record of one thread, one object, and one place of
 -- one list, at which a thread was put in, taken out or moved, everything is as it was

@@ -20,7 +20,7 @@ abbrev pub mutex_by : Option MutexState → List ℕ → Option Mutex
 mutex_by None waiters = None
 mutex_by (Some state) waiters = Some (mutex_of state waiters)
 
--- what the tables do not keep yet is as at the start: keys, alarm and input
+-- what the tables do not keep yet is as at the start: keys and input
 abbrev pub unkept : State
 unkept = start_state [] 0
 
@@ -34,6 +34,7 @@ view order k = record unkept {
   actions = actions_in k.records;
   pending = pending_in k.records;
   now = k.ticks;
+  alarm = k.alarm;
   memory = k.memory;
   over = k.over;
 }

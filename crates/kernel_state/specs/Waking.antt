@@ -36,9 +36,10 @@ HandsOffTo order k q m u =
     (first : KernelState _) (g : Outcome) (mutex : Mutex) → HasNoted order first k g → (view order k.tables).mutexes m ≡ Some mutex → LeavesMutex (view order k.tables) g.state m
     → HasNotedSome order first q (hand_off g m mutex (Some u))
 
--- after a move so far that leaves a thread waiting for a condition, it was noted that its wait ends with a reply
+-- after a move so far that leaves a thread waiting for a condition, it was noted that its wait ends with a reply; the state is good,
+-- perhaps at another time
 -- (POSIX.1 pthread_cond_signal)
 abbrev pub Wakes : {R : Type 0} → (R → List ℕ) → KernelState R → KernelState R → ℕ → ℕ → ℕ → RetakeReply → Type 0
 Wakes order k q c m u reply =
-    (first : KernelState _) (g : Outcome) → HasNoted order first k g → IsGood g.state → WaitsOn g.state u c m → g.state.threads u ≡ (view order k.tables).threads u
+    (first : KernelState _) (g : Outcome) → HasNoted order first k g → (before : ℕ) → IsGood (record g.state { now = before }) → WaitsOn g.state u c m → g.state.threads u ≡ (view order k.tables).threads u
     → HasNotedSome order first q (wake g u reply)

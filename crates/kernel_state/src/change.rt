@@ -41,6 +41,8 @@ pub enum ThreadChange {
     GoBack,
     /// A thread has another base priority and policy, and its turn begins; a ready one goes after the others.
     Schedule { policy: Policy, base: Prio },
+    /// One tick more of a thread's turn is used.
+    Charge,
     /// A thread is detached.
     Detach,
     /// The number of a thread that has ended is free.
@@ -92,8 +94,19 @@ pub enum SignalChange {
     Act { action: Action },
 }
 
+/// A change of the clock or of its alarm.
+#[derive(Clone, Copy, Debug)]
+pub enum ClockChange {
+    /// The time goes on by a tick.
+    Advance,
+    /// The alarm is set to a time, or cleared.
+    Set { alarm: Option<u64> },
+    /// The alarm goes off: it is cleared, and told.
+    Ring,
+}
+
 /// One small change of the machine, with what it tells. It writes the record of one thread, one object (a mutex, a
-/// condition, what pends of a signal with its action, the ending) and one place of one list at most.
+/// condition, what pends of a signal with its action, the clock, the ending) and one place of one list at most.
 #[derive(Clone, Copy, Debug)]
 pub enum Change {
     Thread {
@@ -111,6 +124,9 @@ pub enum Change {
     Signal {
         signal: Sig,
         change: SignalChange,
+    },
+    Clock {
+        change: ClockChange,
     },
     /// A waiting thread takes a mutex back: it has it so often and goes on with the reply where the mutex is free
     /// by then, and else waits for it, after the others.

@@ -112,6 +112,13 @@ impl<R: Ready + Drop> Kernel<R> {
         })
     }
 
+    /// The settings of the run.
+    pub fn settings(&self) -> Settings
+        ensures { result ≡ self.now.settings }
+    {
+        self.settings
+    }
+
     /// What came from outside.
     pub fn outside(&self) -> &Outside
         ensures { result.now ≡ self.now.outside }

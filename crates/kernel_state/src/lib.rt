@@ -3,6 +3,7 @@
 
 mod activity;
 mod change;
+mod clock;
 mod conditions;
 mod kernel;
 mod mutexes;
@@ -19,7 +20,9 @@ mod threads;
 mod waking;
 
 pub use activity::{Activities, Activity};
-pub use change::{Beginning, Change, ConditionChange, MutexChange, SignalChange, ThreadChange};
+pub use change::{
+    Beginning, Change, ClockChange, ConditionChange, MutexChange, SignalChange, ThreadChange,
+};
 pub use kernel::{Kernel, MainLine, Stepped, arguments_from};
 pub use outside::{Outside, arrivals};
 pub use records::{Records, ThreadRecord};

@@ -9,7 +9,9 @@ ghost use Rattle.context_frames.specs.Contexts.{saved_of, stack_of};
 ghost use Rattle.thread_table.specs.Rows.{free_number as free_row, rows as rows_of, live_count};
 ghost use Rattle.thread_signals.specs.Counts.{place_of, put_count, without_signal, all_of, total};
 ghost use Rattle.thread_signals.specs.SignalState.{state_of};
-ghost use Rattle.posix_model.specs.State.{Frame as MachineFrame, no_thread, is_of_handler, wait_of, target, set_at, none_pending, default_actions};
+ghost use Rattle.time_queue.specs.Deadlines.{deadlines as deadlines_of};
+ghost use Rattle.posix_model.specs.State.{Frame as MachineFrame, no_thread, is_of_handler, wait_of, target, set_at, deadline_by, none_pending, default_actions};
+ghost use Rattle.posix_model.specs.Arrivals.{has_come};
 ghost use Rattle.posix_model.specs.Deliveries.{may_take};
 ghost use Rattle.kernel_state.specs.Records.{SameSignals, threads_in, thread_in, standing_in, pending_in, actions_in, has_thread, registers_of, context_of, contexts_of, activities_of, main_row, first_threads, entered, left, top_kind, free_in, next_signal};
 
@@ -22,6 +24,7 @@ use std::marker::Model;
 use thread_base::{Action, NoMemory, Policy, Prio, Sig, SigSet, Tid};
 use thread_signals::Signals;
 use thread_table::{Row, Threads};
+use time_queue::TimeQueue;
 
 /// All that is kept of a thread, but for its frames.
 #[derive(Clone, Copy, Debug)]
@@ -40,6 +43,17 @@ impl ThreadRecord {
         match self.row.ended {
             Some(_) => None,
             None => self.activity.wait,
+        }
+    }
+
+    /// The time at which the thread's wait ends by itself; None exactly where there is none.
+    fn deadline(self) -> Option<u64>
+        ensures { result ≡ deadline_by (wait_of (standing_in self)) }
+    {
+        match self.wait() {
+            Some(Wait::Cond { deadline, .. }) => deadline,
+            Some(Wait::Sleep { until }) => Some(until),
+            _ => None,
         }
     }
 
@@ -70,8 +84,8 @@ impl ThreadRecord {
     }
 }
 
-/// What is kept of each thread: its row, its wait and exit, its frames and registers, and its mask with what signals
-/// need of it; and for the process what pends and the actions of signals. Clauses see the machine's threads by
+/// What is kept of each thread: its row, its wait and exit, its frames and registers, its mask with what signals
+/// need of it, and its deadline; and for the process what pends and the actions of signals. Clauses see the machine's threads by
 /// `threads_in`, and by `pending_in` and `actions_in` what pends and the actions.
 #[derive(Drop)]
 pub struct Records {
@@ -79,6 +93,7 @@ pub struct Records {
     activities: Activities,
     frames: Frames,
     signals: Signals,
+    deadlines: TimeQueue,
     regs: Regs,
     placed: Tid,
 }
@@ -88,9 +103,9 @@ impl Model for Records {
 
     ghost Value = { RecordsState };
 
-    ghost view = { λ r. record { rows = r.rows; activities = r.activities; frames = r.frames; signals = r.signals; regs = r.regs; placed = r.placed } };
+    ghost view = { λ r. record { rows = r.rows; activities = r.activities; frames = r.frames; signals = r.signals; deadlines = r.deadlines; regs = r.regs; placed = r.placed } };
 
-    ghost invariant = { λ r. AreCached (record { rows = r.rows; activities = r.activities; frames = r.frames; signals = r.signals; regs = r.regs; placed = r.placed }) };
+    ghost invariant = { λ r. AreCached (record { rows = r.rows; activities = r.activities; frames = r.frames; signals = r.signals; deadlines = r.deadlines; regs = r.regs; placed = r.placed }) };
 }
 
 #[tactic(auto, unfolding(crate::specs::Records::pending_in, crate::specs::Records::actions_in))]
@@ -114,6 +129,7 @@ impl Records {
             activities: Activities::new(),
             frames,
             signals,
+            deadlines: TimeQueue::new(),
             regs,
             placed: main,
         })
@@ -171,7 +187,13 @@ impl Records {
         self.rows.put(t, known.row);
         self.activities.put(t, known.activity);
         put_context(&mut self.frames, &mut self.regs, self.placed, t, known.regs);
-        note(&mut self.signals, t, &known, self.frames.depth(t));
+        note(
+            &mut self.signals,
+            &mut self.deadlines,
+            t,
+            &known,
+            self.frames.depth(t),
+        );
     }
 
     /// Keeps a new thread, of the least number that is free; it has no frame.
@@ -186,7 +208,7 @@ impl Records {
         self.activities.put(t, known.activity);
         self.frames.drop_all(t);
         put_context(&mut self.frames, &mut self.regs, self.placed, t, known.regs);
-        note(&mut self.signals, t, &known, 0);
+        note(&mut self.signals, &mut self.deadlines, t, &known, 0);
     }
 
     /// Keeps nothing more of a thread that is there: its number is free.
@@ -200,6 +222,7 @@ impl Records {
         self.rows.free(t);
         self.signals.set_wait(t, None);
         self.signals.set_open(t, false);
+        self.deadlines.cancel(t);
     }
 
     /// Pushes a frame with the registers and the mask of a thread that is there and has fewer than 32, and gives the
@@ -222,7 +245,13 @@ impl Records {
         known.mask = mask;
         let _room = self.frames.push(t, frame);
         put_context(&mut self.frames, &mut self.regs, self.placed, t, known.regs);
-        note(&mut self.signals, t, &known, self.frames.depth(t));
+        note(
+            &mut self.signals,
+            &mut self.deadlines,
+            t,
+            &known,
+            self.frames.depth(t),
+        );
     }
 
     /// Takes the last frame of a thread off that is there and has one: its registers are back, and those of a handler's
@@ -241,7 +270,13 @@ impl Records {
         known.mask = mask_after(&frame, known.mask);
         known.regs = frame.regs;
         put_context(&mut self.frames, &mut self.regs, self.placed, t, known.regs);
-        note(&mut self.signals, t, &known, self.frames.depth(t));
+        note(
+            &mut self.signals,
+            &mut self.deadlines,
+            t,
+            &known,
+            self.frames.depth(t),
+        );
     }
 
     /// Changes what is kept of a thread that is there, and drops all its frames; the others stay.
@@ -256,7 +291,7 @@ impl Records {
         self.activities.put(t, known.activity);
         self.frames.drop_all(t);
         put_context(&mut self.frames, &mut self.regs, self.placed, t, known.regs);
-        note(&mut self.signals, t, &known, 0);
+        note(&mut self.signals, &mut self.deadlines, t, &known, 0);
     }
 
     /// What is kept of a thread that is there, but for its frames.
@@ -318,6 +353,13 @@ impl Records {
         ensures others { self.new ≡ record self.old { regs = self.new.regs } }
     {
         exec(&mut self.regs, memory)
+    }
+
+    /// The lowest thread from a number on whose wait ends by itself at a time or before it, if there is one.
+    pub fn due_from(&self, number: u32, time: u64) -> Option<Tid>
+        ensures { result ≡ find (λ t. has_come time (deadline_by (wait_of (threads_in self.now t).standing))) (range_with_len number (65 - number)) }
+    {
+        self.deadlines.due_from(number, time)
     }
 
     /// What a signal does to the process.
@@ -462,18 +504,23 @@ fn first_priority() -> Prio
     Prio::new(8).unwrap()
 }
 
-/// Sets what is kept for signals of a thread: its mask, what it waits for, and whether it may take signals, with so many
-/// frames.
-fn note(signals: &mut Signals, t: Tid, known: &ThreadRecord, depth: u32)
+/// Sets what is kept apart of a thread: for signals its mask, what it waits for, and whether it may take signals, with so
+/// many frames; and its deadline.
+fn note(signals: &mut Signals, deadlines: &mut TimeQueue, t: Tid, known: &ThreadRecord, depth: u32)
     ensures masks { (state_of signals.new).masks ≡ put (state_of signals.old).masks t known.now.mask }
     ensures waits { (state_of signals.new).waits ≡ put (state_of signals.old).waits t (set_at (target (standing_in known.now))) }
     ensures is_open { (frames : List MachineFrame) → depth ≡ length frames → (state_of signals.new).is_open ≡ put (state_of signals.old).is_open t (may_take (thread_in known.now frames)) }
+    ensures deadlines { deadlines_of deadlines.new ≡ put (deadlines_of deadlines.old) t (deadline_by (wait_of (standing_in known.now))) }
     ensures counts { (state_of signals.new).counts ≡ (state_of signals.old).counts }
     ensures actions { (state_of signals.new).actions ≡ (state_of signals.old).actions }
 {
     signals.set_mask(t, known.mask);
     signals.set_wait(t, known.awaited());
     signals.set_open(t, known.may_take(depth));
+    match known.deadline() {
+        Some(until) => deadlines.set(t, until),
+        None => deadlines.cancel(t),
+    }
 }
 
 /// The mask after a frame was taken off: that of a handler's frame is back.

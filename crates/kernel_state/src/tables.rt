@@ -48,6 +48,7 @@ pub struct Tables<R: Ready + Drop> {
     pub(crate) mutexes: Mutexes,
     pub(crate) conditions: Conds,
     pub(crate) ticks: u64,
+    pub(crate) alarm: Option<u64>,
     pub(crate) memory: Memory,
     pub(crate) over: Option<Ending>,
     pub(crate) report: Report,
@@ -77,6 +78,7 @@ impl<R: Ready + Drop> Tables<R> {
             mutexes,
             conditions,
             ticks: 0,
+            alarm: None,
             memory,
             over: None,
             report: Report::nothing(),
@@ -211,14 +213,6 @@ impl<R: Ready + Drop> Tables<R> {
         ensures { result ≡ self.now.records.placed }
     {
         self.records.placed()
-    }
-
-    /// The ticks that have come.
-    #[tactic(auto, unfolding(crate::specs::View::view))]
-    pub fn ticks(&self) -> u64
-        ensures { result ≡ (view R.order self.now).now }
-    {
-        self.ticks
     }
 
     /// Puts the registers of a thread in place; those that were there are saved, and the machine stays.

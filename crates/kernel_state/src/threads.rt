@@ -237,6 +237,18 @@ impl<R: Ready + Drop> Tables<R> {
         }
     }
 
+    /// Charges a tick to a thread: one more of its turn is used.
+    #[tactic(auto, unfolding(crate::specs::View::outcome))]
+    fn charge(&mut self, t: Tid)
+        requires { CanThread ThreadChange.Charge t (view R.order self.old) }
+        ensures outcome { outcome R.order self.new ≡ thread_change_by ThreadChange.Charge t (outcome R.order self.old) }
+        ensures current { StayCurrent R.order R.prio self.old self.new }
+    {
+        let mut known = self.known(t);
+        known.row.used += 1;
+        self.put_record(t, known);
+    }
+
     /// Detaches a thread.
     #[tactic(auto, unfolding(crate::specs::View::outcome))]
     fn detach(&mut self, t: Tid)
@@ -330,6 +342,7 @@ impl<R: Ready + Drop> Tables<R> {
             ThreadChange::Handle { signal, at, mask } => self.handle(t, signal, at, mask),
             ThreadChange::GoBack => self.go_back(t),
             ThreadChange::Schedule { policy, base } => self.schedule(t, policy, base),
+            ThreadChange::Charge => self.charge(t),
             ThreadChange::Detach => self.detach(t),
             ThreadChange::Free => self.free(t),
             ThreadChange::End { value, joined } => self.end(t, value, joined),
@@ -380,6 +393,7 @@ impl<R: Ready + Drop> Tables<R> {
             Change::Mutex { mutex, change } => self.change_mutex(mutex, change),
             Change::Condition { cond, change } => self.change_condition(cond, change),
             Change::Signal { signal, change } => self.change_signal(signal, change),
+            Change::Clock { change } => self.change_clock(change),
             Change::Retake {
                 thread,
                 mutex,

@@ -8,7 +8,7 @@ use Rattle.kernel_state.proofs.RecordLemmas.{changed, cached_put, frames_put, fr
 use Rattle.kernel_state.proofs.records.Records.add.Goals as goal
 
 abbrev state : goal.After-note → RecordsState
-state c = record { rows = c.make-number.new.self; activities = c.put.new.self; frames = c.put_context.new.frames; signals = c.note.new.signals; regs = c.put_context.new.regs; placed = c.self.inside.placed }
+state c = record { rows = c.make-number.new.self; activities = c.put.new.self; frames = c.put_context.new.frames; signals = c.note.new.signals; deadlines = c.note.new.deadlines; regs = c.put_context.new.regs; placed = c.self.inside.placed }
 
 free : (c : goal.After-note) → rows c.make-number.new.self ≡ put (rows c.self.inside.rows) c.args.t (Some c.args.known.row)
 free c =
@@ -25,7 +25,7 @@ shown c =
 
 pub invariant_of-self : goal.invariant_of-self
 invariant_of-self c =
-    cached_put (the_view c.self.inside) (state c) c.args.t (thread_in c.args.known []) c.self.invariant (shown c) c.note.ensures.waits (c.note.ensures.is_open [] refl)
+    cached_put (the_view c.self.inside) (state c) c.args.t (thread_in c.args.known []) c.self.invariant (shown c) c.note.ensures.waits (c.note.ensures.is_open [] refl) c.note.ensures.deadlines
 
 pub returns-clause-threads : goal.returns-clause-threads
 returns-clause-threads c = shown c ∙ ap (λ r. put (threads_in r) c.args.t (thread_in c.args.known [])) c.self.view_is

@@ -15,7 +15,7 @@ use Rattle.kernel_state.proofs.RecordLemmas.{frames_there, changed, cached_put, 
 use Rattle.kernel_state.proofs.records.Records.enter.Goals as goal
 
 abbrev state : goal.After-note → RecordsState
-state c = record (the_view c.self.inside) { frames = c.put_context.new.frames; signals = c.note.new.signals; regs = c.put_context.new.regs }
+state c = record (the_view c.self.inside) { frames = c.put_context.new.frames; signals = c.note.new.signals; deadlines = c.note.new.deadlines; regs = c.put_context.new.regs }
 
 -- what is kept of the thread from now on
 abbrev known : goal.After-note → ThreadRecord
@@ -59,6 +59,7 @@ invariant_of-self c =
     let fs = frames_of (stack c) in
     cached_put (the_view c.self.inside) (state c) c.args.t (thread_in (known c) fs) c.self.invariant (shown c) c.note.ensures.waits
     (c.note.ensures.is_open fs (c.depth.ensures.frames ∙ ap (λ (f : ℕ → List KeptFrame). length (f c.args.t)) (stacked c) ∙ ap length (put_same (stack_of c.self.inside.frames) c.args.t (stack c)) ∙ depth_of (stack c)))
+    c.note.ensures.deadlines
 
 pub returns-clause-threads : goal.returns-clause-threads
 returns-clause-threads c =

@@ -27,7 +27,7 @@ same c =
 
 pub invariant_of-self : goal.invariant_of-self
 invariant_of-self c =
-    cached_still (the_view c.self.inside) (record (the_view c.self.inside) { frames = c.pop.new.self }) c.self.invariant (same c) refl refl
+    cached_still (the_view c.self.inside) (record (the_view c.self.inside) { frames = c.pop.new.self }) c.self.invariant (same c) refl refl refl
 
 there : (r q : RecordsState) (t : ℕ) → r ≡ q → has_thread q t ≡ true → has_thread r t ≡ true
 there r q t e h = subst (λ x. has_thread x t ≡ true) (sym e) h
@@ -43,7 +43,7 @@ returns-in_default-clause-threads c =
 -- ---- a frame is taken off
 
 abbrev state : goal.After-note → RecordsState
-state c = record (the_view c.self.inside) { frames = c.put_context.new.frames; signals = c.note.new.signals; regs = c.put_context.new.regs }
+state c = record (the_view c.self.inside) { frames = c.put_context.new.frames; signals = c.note.new.signals; deadlines = c.note.new.deadlines; regs = c.put_context.new.regs }
 
 -- what is kept of the thread from now on
 abbrev known : goal.After-note → ThreadRecord
@@ -72,6 +72,7 @@ invariant_of-self-2 c =
     let fs = frames_of (stack c) in
     cached_put (the_view c.self.inside) (state c) c.args.t (thread_in (known c) fs) c.self.invariant (shown c) c.note.ensures.waits
     (c.note.ensures.is_open fs (c.depth.ensures.frames ∙ ap (λ (f : ℕ → List KeptFrame). length (f c.args.t)) (stacked c) ∙ ap length (put_same (stack_of c.self.inside.frames) c.args.t (stack c)) ∙ depth_of (stack c)))
+    c.note.ensures.deadlines
 
 pub returns-clause-threads : goal.returns-clause-threads
 returns-clause-threads c =

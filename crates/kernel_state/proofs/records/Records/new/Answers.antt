@@ -8,10 +8,10 @@ use Rattle.kernel_state.specs.Records.{RecordsState, threads_in, frames_of, regi
 use Rattle.kernel_state.proofs.RecordLemmas.{frames_none, in_place, first_made, first_shown, first_cached}
 use Rattle.kernel_state.proofs.records.Records.new.Goals as goal
 
-abbrev state : goal.After-new-2 → RecordsState
-state c = record { rows = c.make-number.new.self; activities = c.new-2.result; frames = c.in_ok-frames.frames; signals = c.set_open.new.self; regs = c.args.regs; placed = c.at-main.result }
+abbrev state : goal.After-new-3 → RecordsState
+state c = record { rows = c.make-number.new.self; activities = c.new-2.result; frames = c.in_ok-frames.frames; signals = c.set_open.new.self; deadlines = c.new-3.result; regs = c.args.regs; placed = c.at-main.result }
 
-shown : (c : goal.After-new-2) → threads_in (state c) ≡ first_threads (registers_of c.args.regs)
+shown : (c : goal.After-new-3) → threads_in (state c) ≡ first_threads (registers_of c.args.regs)
 shown c =
     let s = state c in
     first_shown s (registers_of c.args.regs)
@@ -26,6 +26,7 @@ invariant_of-result c =
     first_cached (state c) (registers_of c.args.regs) (shown c)
     (ap (λ (x : SignalState). x.waits) c.set_open.ensures ∙ ap (λ (x : SignalState). x.waits) c.new-signals.ensures.state)
     (ap (λ (x : SignalState). x.is_open) c.set_open.ensures ∙ (λ i. put (SignalState.is_open (c.new-signals.ensures.state i)) (c.at-main.ensures i) true))
+    c.new-3.ensures
 
 pub returns-clause-threads : goal.returns-clause-threads
 returns-clause-threads c = shown c

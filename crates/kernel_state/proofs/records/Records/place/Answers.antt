@@ -19,7 +19,7 @@ shown c =
     (moved_contexts (saved_of r.frames) (saved_of c.save.new.self) r.placed c.args.t (registers_of r.regs) (registers_of c.context-regs.result) (User r.regs) c.save.ensures.saved refl c.context-regs.ensures)
 
 pub invariant_of-self : goal.invariant_of-self
-invariant_of-self c = cached_still (the_view c.self.inside) (state c) c.self.invariant (shown c) refl refl
+invariant_of-self c = cached_still (the_view c.self.inside) (state c) c.self.invariant (shown c) refl refl refl
 
 pub returns-clause-threads : goal.returns-clause-threads
 returns-clause-threads c = shown c ∙ ap threads_in c.self.view_is

@@ -10,7 +10,7 @@ pub put-requires : goal.put-requires
 put-requires c = is_row (the_view c.self.inside) c.args.t (subst (λ r. has_thread r c.args.t ≡ true) (sym c.self.view_is) c.requires)
 
 abbrev state : goal.After-note → RecordsState
-state c = record { rows = c.put.new.self; activities = c.put-2.new.self; frames = c.put_context.new.frames; signals = c.note.new.signals; regs = c.put_context.new.regs; placed = c.self.inside.placed }
+state c = record { rows = c.put.new.self; activities = c.put-2.new.self; frames = c.put_context.new.frames; signals = c.note.new.signals; deadlines = c.note.new.deadlines; regs = c.put_context.new.regs; placed = c.self.inside.placed }
 
 shown : (c : goal.After-note) → threads_in (state c) ≡ put (threads_in (the_view c.self.inside)) c.args.t (thread_in c.args.known (frames_in (the_view c.self.inside) c.args.t))
 shown c =
@@ -24,6 +24,7 @@ invariant_of-self c =
     let fs = frames_in r c.args.t in
     cached_put r (state c) c.args.t (thread_in c.args.known fs) c.self.invariant (shown c) c.note.ensures.waits
     (c.note.ensures.is_open fs (c.depth.ensures.frames ∙ depth_same (stack_of c.put_context.new.frames c.args.t) (stack_of r.frames) (stack_of c.put_context.new.frames) c.args.t c.put_context.ensures.frames refl))
+    c.note.ensures.deadlines
 
 pub returns-clause-threads : goal.returns-clause-threads
 returns-clause-threads c =

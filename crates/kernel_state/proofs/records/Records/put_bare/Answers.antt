@@ -10,7 +10,7 @@ pub put-requires : goal.put-requires
 put-requires c = is_row (the_view c.self.inside) c.args.t (subst (λ r. has_thread r c.args.t ≡ true) (sym c.self.view_is) c.requires)
 
 abbrev state : goal.After-note → RecordsState
-state c = record { rows = c.put.new.self; activities = c.put-2.new.self; frames = c.put_context.new.frames; signals = c.note.new.signals; regs = c.put_context.new.regs; placed = c.self.inside.placed }
+state c = record { rows = c.put.new.self; activities = c.put-2.new.self; frames = c.put_context.new.frames; signals = c.note.new.signals; deadlines = c.note.new.deadlines; regs = c.put_context.new.regs; placed = c.self.inside.placed }
 
 shown : (c : goal.After-note) → threads_in (state c) ≡ put (threads_in (the_view c.self.inside)) c.args.t (thread_in c.args.known [])
 shown c =
@@ -22,7 +22,7 @@ shown c =
 
 pub invariant_of-self : goal.invariant_of-self
 invariant_of-self c =
-    cached_put (the_view c.self.inside) (state c) c.args.t (thread_in c.args.known []) c.self.invariant (shown c) c.note.ensures.waits (c.note.ensures.is_open [] refl)
+    cached_put (the_view c.self.inside) (state c) c.args.t (thread_in c.args.known []) c.self.invariant (shown c) c.note.ensures.waits (c.note.ensures.is_open [] refl) c.note.ensures.deadlines
 
 pub returns-clause-threads : goal.returns-clause-threads
 returns-clause-threads c = shown c ∙ ap (λ r. put (threads_in r) c.args.t (thread_in c.args.known [])) c.self.view_is

@@ -10,7 +10,7 @@ invariant_of-self c =
     let r = the_view c.self.inside in
     let q : RecordsState = record r { signals = c.set_action.new.self } in
     let e = c.set_action.ensures.state in
-    cached_still r q c.self.invariant (alike r q refl refl (ap (λ (s : SignalState). s.masks) e) refl refl) (ap (λ (s : SignalState). s.waits) e) (ap (λ (s : SignalState). s.is_open) e)
+    cached_still r q c.self.invariant (alike r q refl refl (ap (λ (s : SignalState). s.masks) e) refl refl) (ap (λ (s : SignalState). s.waits) e) (ap (λ (s : SignalState). s.is_open) e) refl
 
 pub returns-clause-threads : goal.returns-clause-threads
 returns-clause-threads c =
