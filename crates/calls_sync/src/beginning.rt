@@ -6,7 +6,9 @@ ghost use Rattle.kernel_state.specs.Moves.{InProgress, IsStep};
 ghost use Rattle.kernel_state.specs.Small.{IsSmall};
 ghost use Rattle.kernel_state.specs.Begun.{CanBegin, CanNote, HasNotedSome, IsBegun, arguments_of};
 
-use crate::conditions::{cond_broadcast, cond_destroy, cond_init, cond_signal, cond_wait};
+use crate::conditions::{
+    cond_broadcast, cond_destroy, cond_init, cond_signal, cond_timedwait, cond_wait,
+};
 use crate::mutexes::{destroy, init, lock, trylock, unlock};
 use kernel_state::{Kernel, Stepped, arguments_from};
 use posix_model::{Arguments, Head, Reply};
@@ -65,6 +67,7 @@ fn row<R: Ready + Drop>(k: &mut Kernel<R>, t: Tid, number: u32, c: Arguments) ->
         280 => cond_init(k, t, c),
         281 => cond_destroy(k, t, c),
         282 => cond_wait(k, t, c),
+        283 => cond_timedwait(k, t, c),
         284 => cond_signal(k, t, c),
         285 => cond_broadcast(k, t, c),
         _ => k.refuse(t, Errno::ENOSYS),

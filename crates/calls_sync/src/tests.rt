@@ -87,6 +87,8 @@ fn calls_where_no_condition_is(rt: HostRuntime) -> Result<(), Fail> {
     assert_eq!(rt; destroyed, (Some(Reply::Values(22, 0)), 1));
     let waits = call(alloc, PlainReady::new(alloc)?, 282, [0; 4])?;
     assert_eq!(rt; waits, (Some(Reply::Values(22, 0)), 1));
+    let waits_until = call(alloc, PlainReady::new(alloc)?, 283, [0, 0, 3, 0])?;
+    assert_eq!(rt; waits_until, (Some(Reply::Values(22, 0)), 1));
     let signals = call(alloc, PlainReady::new(alloc)?, 284, [0; 4])?;
     assert_eq!(rt; signals, (Some(Reply::Values(22, 0)), 1));
     let wakes = call(alloc, PlainReady::new(alloc)?, 285, [0; 4])?;

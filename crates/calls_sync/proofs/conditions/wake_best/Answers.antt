@@ -23,7 +23,7 @@ returns g c =
     sym (c.condition_mutex.ensures.mutex ∙ ap (λ (x : Tables _). cond_mutex ((view order x).conditions c.args.c)) c.tables.ensures.tables) ∙ c.in-Some.is in
     let waiting_on = is_waiter_on s c.args.u c.args.c c.in-Some.m ready.good c.requires.waits bound in
     let woken : Outcome = wake (begun s) c.args.u (Answer 0) in
-    let noted = c.wake.ensures.noted k (begun s) (noted_none order k ready.idle ready.untold) ready.good waiting_on refl in
+    let noted = c.wake.ensures.noted k (begun s) (noted_none order k ready.idle ready.untold) s.now ready.good waiting_on refl in
     subst (λ (x : Change). HasNotedSome order k c.note_more.new.self (change_by x woken)) c.answer.ensures
     (c.note_more.ensures.noted k woken noted.so_far
     (subst (λ (x : Change). Can x woken) (sym c.answer.ensures) (there_woken s c.args.t c.args.u c.args.c c.in-Some.m ready.listed waiting_on)))

@@ -58,7 +58,7 @@ loop-number-preserved g c =
     let fine = good_before s cond m good bound xs all i inside u is in
     let more = one_more s cond m good bound xs all i inside u is in
     let same = stays_there s cond m good bound xs all i inside u is ∙ sym (ap (λ (x : Tables _). (view order x).threads u) tables) in
-    let woken = c.wake.ensures.noted k before c.loop-number.invariant.0 fine waiting_on same in
+    let woken = c.wake.ensures.noted k before c.loop-number.invariant.0 before.state.now fine waiting_on same in
     let many = c.loop-number.invariant.1 in
     let two = c.wake.ensures.length in (
       subst (λ (x : Outcome). HasNoted order k c.wake.new.self x) more woken.so_far,
