@@ -6,6 +6,7 @@ ghost use Rattle.kernel_state.specs.Moves.{InProgress, IsStep};
 ghost use Rattle.kernel_state.specs.Small.{IsSmall};
 ghost use Rattle.kernel_state.specs.Begun.{CanBegin, CanNote, HasNotedSome, IsBegun, arguments_of};
 
+use crate::clock::{clock, set_alarm, sleep};
 use crate::output::write;
 use crate::signals::{kill_process, kill_thread, sigaction, sigmask};
 use kernel_state::{Kernel, Stepped, arguments_from};
@@ -62,6 +63,9 @@ fn row<R: Ready + Drop>(k: &mut Kernel<R>, t: Tid, number: u32, c: Arguments) ->
         287 => sigmask(k, t, c),
         290 => kill_thread(k, t, c),
         291 => kill_process(k, t, c),
+        292 => sleep(k, t, c),
+        293 => set_alarm(k, t, c),
+        294 => clock(k, t),
         _ => k.refuse(t, Errno::ENOSYS),
     }
 }

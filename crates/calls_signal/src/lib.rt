@@ -1,7 +1,8 @@
-//! The calls of output and signals, each as small changes that are noted when it begins.
+//! The calls of output, signals and the clock, each as small changes that are noted when it begins.
 #![tactic(auto)]
 
 mod beginning;
+mod clock;
 mod numbers;
 mod output;
 mod signals;

@@ -32,7 +32,12 @@ fn live_thread<R: Ready + Drop>(k: &Kernel<R>, number: u32) -> Option<Tid>
 }
 
 /// Notes a change after which the caller is still there, and then that the caller is answered a value.
-fn note_and_answer<R: Ready + Drop>(k: &mut Kernel<R>, t: Tid, change: Change, value: u32) -> Reply
+pub(crate) fn note_and_answer<R: Ready + Drop>(
+    k: &mut Kernel<R>,
+    t: Tid,
+    change: Change,
+    value: u32,
+) -> Reply
     requires ready { CanNote R.order k.old t }
     requires can { Can change (begun (view R.order k.old.tables)) }
     requires there { exists (change_by change (begun (view R.order k.old.tables))).state t ≡ true }

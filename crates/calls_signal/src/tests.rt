@@ -1,7 +1,6 @@
 //! Calls of thread 1 from the start of a run on, one after another: what each is answered, and what is told beside.
 
 ghost use Rattle.std.specs.Prelude.{◌≡◌, ◌≤◌, ◌+◌, [], true, IfOk, length};
-ghost use Rattle.thread_base.specs.Numbers.{family_of};
 ghost use Rattle.posix_model.specs.Weights.{pending_in_all};
 ghost use Rattle.kernel_state.specs.Begun.{CanBegin, HasRoom};
 ghost use Rattle.kernel_state.specs.Kernels.{IsIdle};
@@ -26,13 +25,12 @@ enum Beside {
     Killed(u64),
 }
 
-/// A call, its error and its value, and what is told beside.
+/// A call, what it is answered, and what is told beside.
 #[derive(Clone, Copy, Debug)]
 struct Row {
     number: u32,
     args: [u32; 4],
-    error: u32,
-    value: u32,
+    reply: Reply,
     beside: Beside,
 }
 
@@ -46,8 +44,7 @@ fn telling(number: u32, args: [u32; 4], value: u32, beside: Beside) -> Row {
     Row {
         number,
         args,
-        error: 0,
-        value,
+        reply: Reply::Values(0, value),
         beside,
     }
 }
@@ -57,16 +54,26 @@ fn refused(number: u32, args: [u32; 4], error: u32) -> Row {
     Row {
         number,
         args,
-        error,
-        value: 0,
+        reply: Reply::Values(error, 0),
         beside: Beside::Nothing,
     }
 }
 
-/// A kernel at the start of a run over 131,072 bytes: nothing pends.
+/// A call with its arguments that waits.
+fn waiting(number: u32, args: [u32; 4]) -> Row {
+    Row {
+        number,
+        args,
+        reply: Reply::Block,
+        beside: Beside::Nothing,
+    }
+}
+
+/// A kernel at the start of a run over 131,072 bytes: nothing pends, and no tick has come.
 fn start<R: Ready + Drop>(alloc: Global, ready: R) -> Result<Kernel<R>, NoMemory>
     requires { R.order ready ≡ [] }
     ensures none { IfOk result (λ k. pending_in_all (view R.order k.tables) ≤ 0) }
+    ensures time { IfOk result (λ k. (view R.order k.tables).now ≤ 0) }
     ensures ready { IfOk result (λ k. CanBegin R.order k 1) }
 {
     let settings = Settings {
@@ -78,12 +85,13 @@ fn start<R: Ready + Drop>(alloc: Global, ready: R) -> Result<Kernel<R>, NoMemory
 }
 
 /// What a call of the thread that runs is answered, and what is told beside; None where the process is over, nobody
-/// runs, or the number is not of this family.
+/// runs, or the number is not of this family. No tick comes.
 fn call<R: Ready + Drop>(k: &mut Kernel<R>, number: u32, args: [u32; 4]) -> Option<(Reply, Beside)>
     requires idle { IsIdle k.old }
     requires few { HasRoom (view R.order k.old.tables) }
     ensures idle { IsIdle k.new }
     ensures more { pending_in_all (view R.order k.new.tables) ≤ pending_in_all (view R.order k.old.tables) + 1 }
+    ensures time { (view R.order k.new.tables).now ≤ (view R.order k.old.tables).now }
 {
     let number = CallNo::new(number)?;
     let t = k.chosen()?;
@@ -127,13 +135,14 @@ fn told_beside(report: &Report) -> Beside {
 fn first_other<R: Ready + Drop>(k: &mut Kernel<R>, rows: &[Row]) -> Option<usize>
     requires idle { IsIdle k.old }
     requires none { pending_in_all (view R.order k.old.tables) ≤ 0 }
+    requires early { (view R.order k.old.tables).now ≤ 0 }
     requires short { length rows.now ≤ 100 }
     ensures idle { IsIdle k.new }
     ensures few { pending_in_all (view R.order k.new.tables) ≤ 100 }
 {
     let mut index = 0;
     for row in rows {
-        let wanted = Some((Reply::Values(row.error, row.value), row.beside));
+        let wanted = Some((row.reply, row.beside));
         if call(k, row.number, row.args) != wanted {
             return Some(index);
         }
@@ -142,31 +151,91 @@ fn first_other<R: Ready + Drop>(k: &mut Kernel<R>, rows: &[Row]) -> Option<usize
     None
 }
 
-/// How many small changes a call of thread 1 makes at the start of a run, 2 for more than one.
-fn small_changes<R: Ready + Drop>(
+/// How calls of thread 1 from the start of a run on went: which is the first that is answered otherwise than its row
+/// says, if any; and how many of a signal pend after them on thread 1 and on the process, and whether that is over.
+#[derive(Clone, Copy, Debug, PartialEq, Eq)]
+struct Told {
+    other: Option<usize>,
+    on_thread: u64,
+    on_process: u64,
+    is_over: bool,
+}
+
+/// What is told where each call is answered as its row says, and so many of the signal pend.
+fn pending(on_thread: u64, on_process: u64) -> Told {
+    Told {
+        other: None,
+        on_thread,
+        on_process,
+        is_over: false,
+    }
+}
+
+/// What is told where each call is answered as its row says, and the last ends the process.
+fn ended() -> Told {
+    Told {
+        other: None,
+        on_thread: 0,
+        on_process: 0,
+        is_over: true,
+    }
+}
+
+/// How calls of thread 1 from the start of a run on go, with what pends of a signal after them.
+fn told_of<R: Ready + Drop>(
+    alloc: Global,
+    ready: R,
+    rows: &[Row],
+    signal: Sig,
+) -> Result<Told, NoMemory>
+    requires empty { R.order ready ≡ [] }
+    requires short { length rows.now ≤ 100 }
+{
+    let mut k = start(alloc, ready)?;
+    let other = first_other(&mut k, rows);
+    Ok(Told {
+        other,
+        on_thread: k.tables().pending(Some(Tid::at(0)), signal),
+        on_process: k.tables().pending(None, signal),
+        is_over: k.tables().over().is_some(),
+    })
+}
+
+/// How many small changes a call of thread 1 makes, 2 for more than one; 0 where it is not of this family.
+fn small_changes<R: Ready + Drop>(k: &mut Kernel<R>, number: u32, args: [u32; 4]) -> u32
+    requires { CanBegin R.order k.old 1 }
+{
+    let Some(number) = CallNo::new(number) else {
+        return 0;
+    };
+    match number.family() {
+        Family::Signals => {
+            begin(k, Tid::at(0), number, args);
+            match step(k) {
+                Stepped::More => 2,
+                Stepped::Exit(_) => 1,
+            }
+        }
+        _ => 0,
+    }
+}
+
+/// How many small changes a call makes at the start of a run.
+fn changes_at_start<R: Ready + Drop>(
     alloc: Global,
     ready: R,
     number: u32,
     args: [u32; 4],
 ) -> Result<u32, NoMemory>
-    requires empty { R.order ready ≡ [] }
-    requires here { family_of number ≡ Family.Signals }
+    requires { R.order ready ≡ [] }
 {
     let mut k = start(alloc, ready)?;
-    let Some(number) = CallNo::new(number) else {
-        return Ok(0);
-    };
-    begin(&mut k, Tid::at(0), number, args);
-    match step(&mut k) {
-        Stepped::More => Ok(2),
-        Stepped::Exit(_) => Ok(1),
-    }
+    Ok(small_changes(&mut k, number, args))
 }
 
 #[test]
 fn writes(rt: HostRuntime) -> Result<(), Fail> {
     let alloc = rt.alloc();
-    let mut k = start(alloc, PlainReady::new(alloc)?)?;
     let rows = [
         telling(64, [1, 0x10000, 2, 0], 2, Beside::Wrote(2)),
         answered(64, [2, 4, 0, 0], 0),
@@ -175,14 +244,14 @@ fn writes(rt: HostRuntime) -> Result<(), Fail> {
         refused(64, [3, 0x10000, 2, 0], 9),
         refused(64, [1, 4, 1, 0], 14),
     ];
-    assert_eq!(rt; first_other(&mut k, &rows), None);
+    let told = told_of(alloc, PlainReady::new(alloc)?, &rows, Sig::of(10))?;
+    assert_eq!(rt; told, pending(0, 0));
     Ok(())
 }
 
 #[test]
 fn actions(rt: HostRuntime) -> Result<(), Fail> {
     let alloc = rt.alloc();
-    let mut k = start(alloc, PlainReady::new(alloc)?)?;
     let rows = [
         answered(286, [10, 0x10104, 0x1400, 0], 0),
         answered(286, [10, 0xffff_fffc, 0, 0], 0x10104),
@@ -200,14 +269,14 @@ fn actions(rt: HostRuntime) -> Result<(), Fail> {
         refused(286, [10, 5, 0, 0], 22),
         answered(286, [10, 4, 0, 0], 4),
     ];
-    assert_eq!(rt; first_other(&mut k, &rows), None);
+    let told = told_of(alloc, PlainReady::new(alloc)?, &rows, Sig::of(10))?;
+    assert_eq!(rt; told, pending(0, 0));
     Ok(())
 }
 
 #[test]
 fn masks(rt: HostRuntime) -> Result<(), Fail> {
     let alloc = rt.alloc();
-    let mut k = start(alloc, PlainReady::new(alloc)?)?;
     let rows = [
         answered(287, [0, 0x1400, 0, 0], 0),
         answered(287, [0, 0xa00, 0, 0], 0x1400),
@@ -218,14 +287,14 @@ fn masks(rt: HostRuntime) -> Result<(), Fail> {
         answered(287, [2, 0, 0, 0], 0xff83_fdfe),
         answered(287, [0, 0, 0, 0], 0),
     ];
-    assert_eq!(rt; first_other(&mut k, &rows), None);
+    let told = told_of(alloc, PlainReady::new(alloc)?, &rows, Sig::of(10))?;
+    assert_eq!(rt; told, pending(0, 0));
     Ok(())
 }
 
 #[test]
 fn signals_to_a_thread(rt: HostRuntime) -> Result<(), Fail> {
     let alloc = rt.alloc();
-    let mut k = start(alloc, PlainReady::new(alloc)?)?;
     let rows = [
         answered(290, [1, 0, 0, 0], 0),
         answered(290, [1, 10, 0, 0], 0),
@@ -237,16 +306,14 @@ fn signals_to_a_thread(rt: HostRuntime) -> Result<(), Fail> {
         refused(290, [1, 18, 0, 0], 22),
         refused(290, [1, 32, 0, 0], 22),
     ];
-    assert_eq!(rt; first_other(&mut k, &rows), None);
-    assert_eq!(rt; k.tables().pending(Some(Tid::at(0)), Sig::of(10)), 2);
-    assert_eq!(rt; k.tables().pending(None, Sig::of(10)), 0);
+    let told = told_of(alloc, PlainReady::new(alloc)?, &rows, Sig::of(10))?;
+    assert_eq!(rt; told, pending(2, 0));
     Ok(())
 }
 
 #[test]
 fn signals_to_the_process(rt: HostRuntime) -> Result<(), Fail> {
     let alloc = rt.alloc();
-    let mut k = start(alloc, PlainReady::new(alloc)?)?;
     let rows = [
         answered(291, [0, 0, 0, 0], 0),
         answered(291, [10, 0, 0, 0], 0),
@@ -254,16 +321,14 @@ fn signals_to_the_process(rt: HostRuntime) -> Result<(), Fail> {
         refused(291, [22, 0, 0, 0], 22),
         refused(291, [0xffff_ffff, 0, 0, 0], 22),
     ];
-    assert_eq!(rt; first_other(&mut k, &rows), None);
-    assert_eq!(rt; k.tables().pending(Some(Tid::at(0)), Sig::of(10)), 0);
-    assert_eq!(rt; k.tables().pending(None, Sig::of(10)), 1);
+    let told = told_of(alloc, PlainReady::new(alloc)?, &rows, Sig::of(10))?;
+    assert_eq!(rt; told, pending(0, 1));
     Ok(())
 }
 
 #[test]
 fn what_pends_is_dropped(rt: HostRuntime) -> Result<(), Fail> {
     let alloc = rt.alloc();
-    let mut k = start(alloc, PlainReady::new(alloc)?)?;
     let rows = [
         answered(286, [17, 0x10104, 0, 0], 0),
         answered(290, [1, 17, 0, 0], 0),
@@ -273,22 +338,20 @@ fn what_pends_is_dropped(rt: HostRuntime) -> Result<(), Fail> {
         answered(286, [17, 1, 0, 0], 0),
         telling(290, [1, 17, 0, 0], 0, Beside::Dropped(1)),
     ];
-    assert_eq!(rt; first_other(&mut k, &rows), None);
-    assert_eq!(rt; k.tables().pending(None, Sig::of(17)), 0);
+    let told = told_of(alloc, PlainReady::new(alloc)?, &rows, Sig::of(17))?;
+    assert_eq!(rt; told, pending(0, 0));
     Ok(())
 }
 
 #[test]
 fn kill_ends_the_process(rt: HostRuntime) -> Result<(), Fail> {
     let alloc = rt.alloc();
-    let killed = [telling(290, [1, 9, 0, 0], 0, Beside::Killed(1))];
-    let mut k = start(alloc, PlainReady::new(alloc)?)?;
-    assert_eq!(rt; first_other(&mut k, &killed), None);
-    assert!(rt; k.tables().over().is_some());
-    let shared = [telling(291, [9, 0, 0, 0], 0, Beside::Killed(1))];
-    let mut q = start(alloc, PlainReady::new(alloc)?)?;
-    assert_eq!(rt; first_other(&mut q, &shared), None);
-    assert!(rt; q.tables().over().is_some());
+    let to_thread = [telling(290, [1, 9, 0, 0], 0, Beside::Killed(1))];
+    let told = told_of(alloc, PlainReady::new(alloc)?, &to_thread, Sig::of(9))?;
+    assert_eq!(rt; told, ended());
+    let to_process = [telling(291, [9, 0, 0, 0], 0, Beside::Killed(1))];
+    let told = told_of(alloc, PlainReady::new(alloc)?, &to_process, Sig::of(9))?;
+    assert_eq!(rt; told, ended());
     Ok(())
 }
 
@@ -305,12 +368,8 @@ fn calls_as_small_changes(rt: HostRuntime) -> Result<(), Fail> {
         (291, [9, 0, 0, 0], 2),
         (291, [18, 0, 0, 0], 1),
     ] {
-        let ready = PlainReady::new(alloc)?;
-        assert_eq!(rt;
-            small_changes(alloc, ready, number, args)?,
-            changes,
-            "call {number}"
-        );
+        let made = changes_at_start(alloc, PlainReady::new(alloc)?, number, args)?;
+        assert_eq!(rt; made, changes, "call {number}");
     }
     Ok(())
 }
@@ -318,12 +377,28 @@ fn calls_as_small_changes(rt: HostRuntime) -> Result<(), Fail> {
 #[test]
 fn calls_that_are_not_built(rt: HostRuntime) -> Result<(), Fail> {
     let alloc = rt.alloc();
-    let mut k = start(alloc, PlainReady::new(alloc)?)?;
     let rows = [
         refused(63, [0, 0x10000, 1, 0], 38),
         refused(288, [0; 4], 38),
-        refused(294, [0; 4], 38),
     ];
-    assert_eq!(rt; first_other(&mut k, &rows), None);
+    let told = told_of(alloc, PlainReady::new(alloc)?, &rows, Sig::of(10))?;
+    assert_eq!(rt; told, pending(0, 0));
+    Ok(())
+}
+
+#[test]
+fn clock_calls(rt: HostRuntime) -> Result<(), Fail> {
+    let alloc = rt.alloc();
+    let rows = [
+        answered(294, [0; 4], 0),
+        answered(293, [9, 0, 0, 0], 0),
+        answered(293, [0xffff_ffff, 0, 0, 0], 9),
+        answered(293, [0; 4], 0xffff_ffff),
+        answered(293, [5, 0, 0, 0], 0),
+        answered(292, [0; 4], 0),
+        waiting(292, [7, 0, 0, 0]),
+    ];
+    let told = told_of(alloc, PlainReady::new(alloc)?, &rows, Sig::of(14))?;
+    assert_eq!(rt; told, pending(0, 0));
     Ok(())
 }

@@ -18,6 +18,17 @@ one_more s t number a =
     let adds = (adds_call s t number a).sum in
     omega (arith, before, after, adds)
 
+-- no tick comes with a call
+no_tick : (s : State) (t number : ℕ) (a : Arguments) → (call s t number a).state.now ≤ s.now
+no_tick s t number a = let time = (adds_call s t number a).time in omega (arith, time)
+
+pub returns-in-Signals-clause-time : goal.returns-in-Signals-clause-time
+returns-in-Signals-clause-time g c =
+    let s = view g.R.Ready.order c.args.k.now.tables in
+    let after = ap (λ (r : State). r.now) (c.finish.ensures.state ∙ ap (λ (o : Outcome). o.state) c.begin.ensures.owed) in
+    let none = no_tick s c.in_ok-t.t c.in_ok-number.number (arguments_of c.args.args) in
+    omega (arith, after, none)
+
 pub returns-in-Signals-clause-more : goal.returns-in-Signals-clause-more
 returns-in-Signals-clause-more g c =
     let s = view g.R.Ready.order c.args.k.now.tables in

@@ -21,3 +21,7 @@ if_ok (Err e) each h = h
 pub returns-clause-none : goal.returns-clause-none
 returns-clause-none g c =
     if_ok c.new-2.result (λ k. none_at_start (view g.R.Ready.order k.tables) c.in_ok-memory.memory 65536) c.new-2.ensures.start
+
+pub returns-clause-time : goal.returns-clause-time
+returns-clause-time g c =
+    if_ok c.new-2.result (λ k is. let none = ap (λ (s : State). s.now) is in omega (arith, none)) c.new-2.ensures.start
