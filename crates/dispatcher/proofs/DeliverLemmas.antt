@@ -153,7 +153,7 @@ module _ {R : Type 0} (order : R → List ℕ) (prios : R → ℕ → ℕ) (k : 
 
     made : ComesTo order k r t head (deliver before)
     made =
-        let both = given_taken before t sig origin next good room in
+        let both = given_taken before t sig origin next good room.pends in
         let fits = both.1 in
         let all = whole in
         subst (ComesTo order k r t head) (ap (given taken t sig) whole ∙ sym (ap (delivered before) next))

@@ -1,12 +1,13 @@
-ghost use Rattle.std.specs.Prelude.{◌≡◌, ◌<◌, ◌^◌, false};
+ghost use Rattle.std.specs.Prelude.{◌≡◌, ◌<◌, false, length, None};
 ghost use Rattle.posix_model.specs.Changes.{begun};
 ghost use Rattle.posix_model.specs.Arrivals.{arrive_signal};
 ghost use Rattle.posix_model.specs.Runs.{told_at};
 ghost use Rattle.kernel_state.specs.View.{view};
-ghost use Rattle.kernel_state.specs.Begun.{HasNotedSome, HasRoom, IsBegun};
+ghost use Rattle.kernel_state.specs.Begun.{HasRoom, IsBegun};
 ghost use Rattle.kernel_state.specs.Kernels.{IsIdle};
-ghost use Rattle.dispatcher.specs.Arriving.{is_empty, StandsForSome, AreSignals, BeginsArrival};
+ghost use Rattle.dispatcher.specs.Arriving.{is_empty, StandsForSome, AreSignalsOrTicks, Comes, BeginsArrival};
 
+use crate::ticking::begin_tick;
 use kernel_state::{Change, Kernel, SignalChange};
 use posix_model::Head;
 use ready_queues::Ready;
@@ -15,13 +16,13 @@ use thread_base::{Place, Sig};
 /// The signal that no handler catches and no mask holds back.
 const KILL: u32 = 9;
 
-/// Begins the arrival of what came from outside first: all entries of one signal, as many as wait (POSIX.1 kill).
+/// Begins the arrival of what came from outside first: all entries of one signal, as many as wait (POSIX.1 kill), or one tick.
 pub fn begin_arrival<R: Ready + Drop>(k: &mut Kernel<R>)
     requires idle { IsIdle k.old }
     requires room { HasRoom (view R.order k.old.tables) }
     requires some { is_empty k.old.outside ≡ false }
     requires stands { StandsForSome k.old.outside }
-    requires signals { AreSignals k.old.outside.journal.entries }
+    requires built { AreSignalsOrTicks k.old.outside.journal.entries }
     ensures { BeginsArrival R.order k.old k.new }
 {
     let Some(taken) = k.drain() else {
@@ -30,7 +31,7 @@ pub fn begin_arrival<R: Ready + Drop>(k: &mut Kernel<R>)
     let at = k.outside().place(taken.first);
     match taken.event.signal() {
         Some(s) => begin_signal(k, s, taken.first, taken.count, at),
-        None => unreachable!(),
+        None => begin_tick(k, taken.first, at),
     }
 }
 
@@ -41,6 +42,7 @@ fn begin_signal<R: Ready + Drop>(k: &mut Kernel<R>, s: Sig, first: u32, count: u
     ensures { IsBegun R.order k.old k.new (told_at at (Head.ArriveSig first count s) (arrive_signal (begun (view R.order k.old.tables)) s count)) }
 {
     let _sound = k.tables();
+    let _in_scope = s.number();
     note_signal(k, s, u64::from(count));
     let head = Head::ArriveSig {
         first,
@@ -50,15 +52,14 @@ fn begin_signal<R: Ready + Drop>(k: &mut Kernel<R>, s: Sig, first: u32, count: u
     k.begin_arrival(head, at);
 }
 
-/// Notes what so many entries of a signal do: KILL ends the process, one that is ignored is dropped, and every other pends
-/// on the process.
-fn note_signal<R: Ready + Drop>(k: &mut Kernel<R>, s: Sig, count: u64)
-    requires idle { IsIdle k.old }
-    requires room { HasRoom (view R.order k.old.tables) }
-    requires few { count < 2 ^ 32 }
-    ensures { HasNotedSome R.order k.old k.new (arrive_signal (begun (view R.order k.old.tables)) s count) }
+/// Notes, after what the move has noted, what so many of a signal do that come for the process: KILL ends it, one that is
+/// ignored is dropped, and every other pends.
+pub(crate) fn note_signal<R: Ready + Drop>(k: &mut Kernel<R>, s: Sig, count: u64)
+    requires idle { k.old.main ≡ None }
+    requires room { length k.old.rest.noted.items < 512 }
+    ensures idle { k.new.main ≡ None }
+    ensures comes { Comes R.order k.old k.new s count }
 {
-    let _sound = k.tables();
     if s.number() == KILL {
         k.note_more(Change::Kill { signal: s, count });
     } else if k.tables().action(s).ignores(s) {

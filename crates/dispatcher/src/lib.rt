@@ -4,6 +4,7 @@
 mod arrival;
 mod delivery;
 mod next;
+mod ticking;
 
 pub use arrival::begin_arrival;
 pub use delivery::begin_delivery;

@@ -3,7 +3,7 @@ ghost use Rattle.posix_model.specs.Deliveries.{next_delivery, deliver};
 ghost use Rattle.kernel_state.specs.View.{view};
 ghost use Rattle.kernel_state.specs.Begun.{HasRoom, IsBegun};
 ghost use Rattle.kernel_state.specs.Kernels.{IsIdle};
-ghost use Rattle.dispatcher.specs.Arriving.{is_empty, StandsForSome, AreSignals, BeginsArrival};
+ghost use Rattle.dispatcher.specs.Arriving.{is_empty, StandsForSome, AreSignalsOrTicks, BeginsArrival};
 
 use crate::arrival::begin_arrival;
 use crate::delivery::begin_delivery;
@@ -16,7 +16,7 @@ pub fn begin_next<R: Ready + Drop>(k: &mut Kernel<R>) -> bool
     requires idle { IsIdle k.old }
     requires room { HasRoom (view R.order k.old.tables) }
     requires stands { StandsForSome k.old.outside }
-    requires signals { AreSignals k.old.outside.journal.entries }
+    requires built { AreSignalsOrTicks k.old.outside.journal.entries }
     ensures arrival { is_empty k.old.outside ≡ false → BeginsArrival R.order k.old k.new }
     ensures delivery { is_empty k.old.outside ≡ true → result ≡ true → IsBegun R.order k.old k.new (deliver (view R.order k.old.tables)) }
     ensures settled { result ≡ false → k.new ≡ k.old }

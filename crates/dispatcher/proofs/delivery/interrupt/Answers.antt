@@ -10,5 +10,5 @@ returns-clause-noted g c = λ first s noted taken room.
     let before = view order c.args.k.now.tables in
     let t = c.args.t in
     let waiting_on = waits_on_still before s t c.args.c c.args.m taken c.requires.waits in
-    let woken = c.wake.ensures.noted first (begun s) noted taken.good waiting_on (same_thread before s t taken) in
+    let woken = c.wake.ensures.noted first (begun s) noted s.now taken.good waiting_on (same_thread before s t taken) in
     interrupts order first s t c.number.result c.args.s c.args.count c.number.ensures.value c.wake.new.self c.note_more.new.self c.args.c room woken.so_far c.note_more.ensures.noted
