@@ -8,7 +8,7 @@ use Rattle.journal_text.specs.Contents.{Contents}
 use Rattle.journal_text.specs.Valid.{IsJournal}
 use Rattle.journal_text.specs.declared.entry.Entry.{Entry}
 use Rattle.journal_text.specs.declared.entry.What.{What}
-use Rattle.journal_text.specs.declared.entry.What.TheVariants.{Sig}
+use Rattle.journal_text.specs.declared.entry.What.TheVariants.{Sig, Tick, Data, Eof}
 use Rattle.unix_process.specs.declared.Taken.{Taken}
 use Rattle.ready_queues.specs.Queue.{Queue}
 use Rattle.posix_model.specs.State.{State}
@@ -20,7 +20,6 @@ use Rattle.posix_model.specs.Reports.{nothing_told}
 use Rattle.posix_model.specs.Runs.{Rules, Moment, MayArrive, arrived, make, moved, due}
 use Rattle.posix_model.specs.Start.{start, start_state}
 use Rattle.posix_model.specs.declared.Settings.{Settings}
-use Rattle.posix_model.specs.declared.Head.TheVariants.{ArriveSig}
 use Rattle.posix_model.specs.declared.Move.TheVariants.{Arrive}
 use Rattle.posix_model.proofs.GoodMoves.{goodness}
 use Rattle.posix_model.proofs.PendingMoves.{bounded_start}
@@ -37,7 +36,7 @@ use Rattle.kernel_state.proofs.PresentedLemmas.{stands_gathered}
 use Rattle.kernel_state.proofs.ArrivalLemmas.{drained_of_entry}
 use Rattle.kernel_state.proofs.LawLemmas.{drained_may_arrive}
 use Rattle.kernel_state.proofs.SoundLemmas.{taken_is, taken_kept}
-use Rattle.dispatcher.specs.Arriving.{is_empty, AreSignals, BeginsArrival, rules_of as rules_at}
+use Rattle.dispatcher.specs.Arriving.{is_empty, AreSignalsOrTicks, BeginsArrival, rules_of as rules_at}
 use Rattle.process_engine.specs.Engine.{Engine, order, owed_of, moment_of, position_of, rules_of, next_place, stop_of, ArePrompt, IsSound}
 use Rattle.process_engine.specs.Advancing.{HasBegun, BeginsMove, Advances}
 use Rattle.process_engine.specs.declared.stage.Advance.TheVariants.{Begun}
@@ -47,12 +46,16 @@ use Rattle.process_engine.proofs.InstructionLemmas.{has_begun}
 use Rattle.process_engine.proofs.DueLemmas.{left_before, due_later, due_more, set_here, set_there}
 use Rattle.process_engine.proofs.EngineLemmas.{moment_state, state_is, begins, sound_moved, delivers, delivers_sound}
 
--- the main line of entries of a signal
-arrival_head : (rules : Rules) (s : State) (first count : ℕ) (at : Place) (e : Entry) (sig : ℕ) → entry_at rules.journal.entries first ≡ Some e → e.what ≡ Sig sig
-    → (make rules s (Arrive first count at)).report.head ≡ ArriveSig first count sig
-arrival_head rules s first count at e sig here is =
-    ap (λ o. (arrived rules s first count at o).report.head) here
-    ∙ ap (λ (w : What). (arrived rules s first count at (Some (record e { what = w }))).report.head) is
+-- the main line of an entry of any kind is that of an arrival
+arrival_main : (rules : Rules) (s : State) (first count : ℕ) (at : Place) (e : Entry) → entry_at rules.journal.entries first ≡ Some e
+    → IsArrivalMain (make rules s (Arrive first count at)).report.head
+arrival_main rules s first count at e here = subst (λ o. IsArrivalMain (arrived rules s first count at o).report.head) (sym here) (by e.what)
+  where
+    by : (what : What) → IsArrivalMain (arrived rules s first count at (Some (record e { what = what }))).report.head
+    by (Sig sig) = record { arrival = refl; no_call = refl; no_delivery = refl }
+    by Tick = record { arrival = refl; no_call = refl; no_delivery = refl }
+    by (Data start len) = record { arrival = refl; no_call = refl; no_delivery = refl }
+    by Eof = record { arrival = refl; no_call = refl; no_delivery = refl }
 
 -- what was presented arrives, where each entry of it is due
 module _ (p old : Engine) (is : p ≡ old) (sound : IsSound p) (rest : IsIdle p.kernel) (untold : p.kernel.tables.report ≡ nothing_told) (over : (view order p.kernel.tables).over ≡ None)
@@ -103,13 +106,8 @@ module _ (p old : Engine) (is : p ≡ old) (sound : IsSound p) (rest : IsIdle p.
       ≡ make p.rules (moment_of p).state (Arrive begins_it.taken.first begins_it.taken.count begins_it.at)
   made_is = λ i. make (record { settings = sound.settings i; journal = sound.journal i }) (sym (moment_state p rest) i) (Arrive d.first d.count begins_it.at)
 
-  head_is : (sig : ℕ) × ((make (rules_at p.kernel) (view order p.kernel.tables) (Arrive begins_it.taken.first begins_it.taken.count begins_it.at)).report.head ≡ ArriveSig begins_it.taken.first begins_it.taken.count sig)
-  head_is =
-      let signal = sound.signals d.first may.entry may.here in
-      (signal.0, ap (λ (g : Outcome). g.report.head) made_is ∙ arrival_head p.rules (moment_of p).state d.first d.count begins_it.at may.entry signal.0 may.here signal.1)
-
   main : IsArrivalMain (make (rules_at p.kernel) (view order p.kernel.tables) (Arrive begins_it.taken.first begins_it.taken.count begins_it.at)).report.head
-  main = subst IsArrivalMain (sym head_is.1) (record { arrival = refl; no_call = refl; no_delivery = refl })
+  main = subst (λ (g : Outcome). IsArrivalMain g.report.head) (sym made_is) (arrival_main p.rules (moment_of p).state d.first d.count begins_it.at may.entry may.here)
 
   has : HasBegun order k l (make (rules_at p.kernel) (view order p.kernel.tables) (Arrive begins_it.taken.first begins_it.taken.count begins_it.at))
   has = has_begun order k l _ untold begins_it.begun (λ h. absurd (let e : false ≡ true = sym (ap is_arrival h) ∙ main.arrival in cc))
@@ -192,7 +190,7 @@ module _ (p : Engine) (sound : IsSound p) (rest : IsIdle p.kernel) (next_due : i
         settings = ap (λ (x : KernelState Queue). x.settings) so ∙ sound.settings ∙ sym (ap (λ (x : Rules). x.settings) ruled);
         journal = journal_is;
         whole = subst (λ (x : Rules). IsJournal x.journal) (sym ruled) sound.whole;
-        signals = subst (λ (x : Rules). AreSignals x.journal.entries) (sym ruled) sound.signals;
+        built = subst (λ (x : Rules). AreSignalsOrTicks x.journal.entries) (sym ruled) sound.built;
         outside = subst (StandsOutside k.outside) (sym taken_same) (keeps (taken_of p.kernel.outside) sound.outside);
         prompt = subst (λ x. ArePrompt rules (moment_of after) x) (sym outside_is) (subst (λ n. ArePrompt rules n (present p.kernel.outside number at)) (sym presented_now) (subst (λ r. ArePrompt r (moment_of p) (present p.kernel.outside number at)) (sym ruled) prompt));
         good = subst IsGood (sym (ap (λ (g : Outcome). g.state) owed_same)) sound.good;
@@ -292,17 +290,17 @@ module _ (k : KernelState Queue) (journal : Contents) (settings : Settings) (mem
           let nothing = presented_is in
           omega (arith, some, low, nothing)
 
-  pub first_sound : (stop : ℕ) → IsSoundOutside q.outside → IsJournal journal → AreSignals journal.entries → settings.budget ≤ 1000000000
+  pub first_sound : (stop : ℕ) → IsSoundOutside q.outside → IsJournal journal → AreSignalsOrTicks journal.entries → settings.budget ≤ 1000000000
       → stop ≡ stop_of settings.budget (next_place q.outside.journal q.outside.presented)
       → IsSound (record { kernel = q; instructions = 0; stop = stop; last = None; stage = Paused; rules = rules_of settings q.outside.journal })
-  first_sound stop outside whole signals limit stopped = record {
+  first_sound stop outside whole built limit stopped = record {
     within = omega arith;
     limit = limit;
     stop = stopped;
     settings = ap (λ (x : KernelState Queue). x.settings) so ∙ set;
     journal = refl;
     whole = subst IsJournal (sym journal_is) whole;
-    signals = subst (λ (j : Contents). AreSignals j.entries) (sym journal_is) signals;
+    built = subst (λ (j : Contents). AreSignalsOrTicks j.entries) (sym journal_is) built;
     outside = outside.stands;
     prompt = first_prompt stop;
     good = subst (λ (m : Moment). IsGood m.state) (sym (first_now stop)) (goodness.0 memory entry);

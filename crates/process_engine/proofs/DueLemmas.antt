@@ -438,15 +438,18 @@ length_signals : length signals ≡ 31
 unfolding signals
 length_signals = refl
 
--- no more of all kinds together than 33 times as many as there are
-pub taken_few : (entries : List Entry) (taken : Kind → ℕ) (presented : ℕ) (log pending : List Taken) → StandsFor entries taken presented log pending → length entries ≤ 1000000
-    → taken_in_all taken ≤ 33000000
-taken_few entries taken presented log pending s few =
-    let each : (k : Kind) → taken k ≤ 1000000 = λ k. (
+-- no more of a kind than there are entries
+pub kind_few : (entries : List Entry) (taken : Kind → ℕ) (presented : ℕ) (log pending : List Taken) → StandsFor entries taken presented log pending → length entries ≤ 1000000
+    → (k : Kind) → taken k ≤ 1000000
+kind_few entries taken presented log pending s few k =
     let within = taken_within entries taken presented log pending s k in
     let numbers = numbers_le k 1 (take presented entries) in
     let front = front_le presented entries in
-    omega (arith, within, numbers, front, few)) in
+    omega (arith, within, numbers, front, few)
+
+-- no more of all kinds together than 33 times as many
+pub taken_few : (taken : Kind → ℕ) → ((k : Kind) → taken k ≤ 1000000) → taken_in_all taken ≤ 33000000
+taken_few taken each =
     let of_signals = total_le (λ sig. taken (OfSignal sig)) 1000000 signals (λ sig. each (OfSignal sig)) in
     let count = length_signals in
     let ticks = each OfTicks in

@@ -15,7 +15,7 @@ use Rattle.posix_model.specs.Laws.{IsBounded}
 use Rattle.posix_model.specs.Weights.{pending_in_all}
 use Rattle.posix_model.proofs.PendingMoves.{bounded_move}
 use Rattle.posix_model.specs.Good.{IsGood}
-use Rattle.posix_model.specs.Journals.{untaken}
+use Rattle.posix_model.specs.Journals.{OfTicks, untaken}
 use Rattle.posix_model.specs.Instructions.{instruction}
 use Rattle.posix_model.specs.Reports.{nothing_told}
 use Rattle.posix_model.specs.Runs.{Rules, Moment, Allowed, IsTurnOf, IsIdle as IsIdleRun, Ends, make, moved, due, is_waiting, is_settled}
@@ -37,7 +37,7 @@ use Rattle.kernel_state.specs.Kernels.{KernelState, remaining, IsEmpty, IsIdle, 
 use Rattle.kernel_state.specs.Outside.{OutsideState}
 use Rattle.kernel_state.specs.Presented.{Stands as StandsOutside, taken_of}
 use Rattle.kernel_state.specs.declared.rest.Rest.{Rest}
-use Rattle.dispatcher.specs.Arriving.{is_empty, AreSignals}
+use Rattle.dispatcher.specs.Arriving.{is_empty, AreSignalsOrTicks}
 use Rattle.process_engine.specs.Engine.{Engine, order, owed_of, moment_of, position_of, telling_of, next_place, stop_of, is_due, ArePrompt, HasTurn, Stands, IsSound}
 use Rattle.process_engine.specs.Advancing.{HasGoneOn, HasBegun, BeginsInstruction, MakesPlain, BeginsMove, EndsHere, Advances}
 use Rattle.process_engine.specs.declared.stage.Advance.TheVariants.{Plain, Switched, Begun}
@@ -47,7 +47,7 @@ use Rattle.kernel_state.proofs.NoteLemmas.{idle_remaining}
 use Rattle.process_engine.proofs.CountLemmas.{IsPlainMain, IsDeliveryMain, instruction_counts, delivery_counts}
 use Rattle.process_engine.proofs.DeliveryLemmas.{delivery_main}
 use Rattle.process_engine.proofs.InstructionLemmas.{has_begun}
-use Rattle.process_engine.proofs.DueLemmas.{is_reached_or, none_presented, none_before, next_due, not_reached, nothing_due, taken_few}
+use Rattle.process_engine.proofs.DueLemmas.{is_reached_or, none_presented, none_before, next_due, not_reached, nothing_due, kind_few, taken_few}
 
 -- at rest nothing is left, and nothing is owed
 pub none_remaining : (rest : Rest) → IsEmpty rest → length (remaining rest) ≡ 0
@@ -97,7 +97,7 @@ module _ (p q : Engine) (sound : IsSound p) (rules : q.rules ≡ p.rules) (stop 
         settings = settings ∙ sound.settings ∙ sym (ap (λ (x : Rules). x.settings) rules);
         journal = ap (λ (x : OutsideState). x.journal) outside ∙ journal ∙ sound.journal ∙ sym (ap (λ (x : Rules). x.journal) rules);
         whole = subst (λ (x : Rules). IsJournal x.journal) (sym rules) sound.whole;
-        signals = subst (λ (x : Rules). AreSignals x.journal.entries) (sym rules) sound.signals;
+        built = subst (λ (x : Rules). AreSignalsOrTicks x.journal.entries) (sym rules) sound.built;
         outside = subst (λ x. StandsOutside x (taken_of x)) (sym outside) waits;
         prompt = subst (λ x. ArePrompt q.rules (moment_of q) x) (sym outside) (subst (λ n. ArePrompt q.rules n o) (sym is) (subst (λ r. ArePrompt r now o) (sym rules) prompt));
         good = subst (λ (x : Moment). IsGood x.state) (sym is) good;
@@ -253,14 +253,22 @@ module _ (p : Engine) (t : ℕ) (turn : Turn p t) (k : KernelState Queue) (same 
 -- what pends leaves room for more: no more pends than instructions and entries brought
 pub has_room : (p : Engine) (k : KernelState Queue) → IsSound p → IsIdle p.kernel → view order k.tables ≡ view order p.kernel.tables → HasRoom (view order k.tables)
 has_room p k sound rest same =
-    let state = ap pending_in_all (moment_state p rest ∙ sym same) in
+    let state = moment_state p rest ∙ sym same in
+    let pends = ap pending_in_all state in
+    let now = ap (λ (s : State). s.now) state in
     let sum = sound.bounded.sum in
+    let time = sound.bounded.time in
     let within = sound.within in
     let limit = sound.limit in
     let few = sound.whole.few in
-    let taken = taken_few p.kernel.outside.journal.entries (taken_of p.kernel.outside) p.kernel.outside.presented p.kernel.outside.log.slots p.kernel.outside.unix.pending sound.outside
+    let each = kind_few p.kernel.outside.journal.entries (taken_of p.kernel.outside) p.kernel.outside.presented p.kernel.outside.log.slots p.kernel.outside.unix.pending sound.outside
     (let same = ap (λ (j : Contents). length j.entries) sound.journal in omega (arith, same, few)) in
-    omega (arith, state, sum, within, limit, taken)
+    let taken = taken_few (taken_of p.kernel.outside) each in
+    let ticks = each OfTicks in
+    record {
+      pends = omega (arith, pends, sum, within, limit, taken);
+      time = omega (arith, now, time, ticks);
+    }
 
 turn_of : (p : Engine) (t : ℕ) → IsSound p → Turn p t → IsTurnOf p.rules (moment_of p) t
 turn_of p t sound turn =

@@ -19,9 +19,11 @@ use Rattle.posix_model.specs.declared.Report.{Report}
 use Rattle.posix_model.specs.declared.RetakeReply.{RetakeReply}
 use Rattle.posix_model.specs.declared.RetakeReply.TheVariants.{Answer as AnswerBack, Cancel}
 use Rattle.trace_text.specs.Output.{IsReadable}
-use Rattle.kernel_state.specs.Changing.{Can, change_by, thread_change_by, remains_of, owed, AllCan}
+use Rattle.kernel_state.specs.Changing.{Can, change_by, thread_change_by, clock_change_by, remains_of, owed, AllCan}
 use Rattle.kernel_state.specs.declared.change.Change.{Change}
-use Rattle.kernel_state.specs.declared.change.Change.TheVariants.{Thread, Signal, Retake, Output}
+use Rattle.kernel_state.specs.declared.change.Change.TheVariants.{Thread, Signal, Clock, Retake, Output}
+use Rattle.kernel_state.specs.declared.change.ClockChange.{ClockChange}
+use Rattle.kernel_state.specs.declared.change.ClockChange.TheVariants.{Advance, Set, Ring}
 use Rattle.kernel_state.specs.declared.change.SignalChange.TheVariants.{Act}
 use Rattle.kernel_state.specs.declared.change.ThreadChange.{ThreadChange}
 use Rattle.kernel_state.specs.declared.change.ThreadChange.TheVariants.{End}
@@ -69,10 +71,16 @@ acted_readable action sig g h = by (ignores action sig)
     by true = h
     by false = h
 
+clock_readable : (change : ClockChange) (g : Outcome) → Readable g → Readable (clock_change_by change g)
+clock_readable Advance g h = h
+clock_readable (Set alarm) g h = h
+clock_readable Ring g h = h
+
 change_readable : (change : Change) (g : Outcome) → Can change g → Readable g → Readable (change_by change g)
 change_readable (Thread t change) g can h = thread_readable change t g h
 change_readable (Retake t m count reply) g can h = retake_readable g m (g.state.mutexes m) t count reply h
 change_readable (Signal sig (Act action)) g can h = acted_readable action sig g h
+change_readable (Clock change) g can h = clock_readable change g h
 change_readable (Output descriptor buffer size) g can h = λ some. can
 change_readable change g can h = h
 

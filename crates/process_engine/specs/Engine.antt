@@ -23,7 +23,7 @@ use Rattle.kernel_state.specs.Kernels.{KernelState, remaining, IsIdle, owed_by}
 use Rattle.kernel_state.specs.Moves.{InProgress}
 use Rattle.kernel_state.specs.Outside.{OutsideState}
 use Rattle.kernel_state.specs.Presented.{Stands as StandsOutside, taken_of, AreDue}
-use Rattle.dispatcher.specs.Arriving.{is_empty, AreSignals}
+use Rattle.dispatcher.specs.Arriving.{is_empty, AreSignalsOrTicks}
 use Rattle.process_engine.specs.declared.stage.Stage.{Stage}
 use Rattle.process_engine.specs.declared.stage.Stage.TheVariants.{Going, Paused, InCall}
 
@@ -113,7 +113,7 @@ Stands order k last Going = IsIdle k × HasTurn order k × (last ≡ Some k.tabl
 Stands order k last Paused = IsIdle k
 Stands order k last InCall = IsInCall order k
 
--- what holds of every process: it is within its budget, its journal is one of signals, what waits outside stands for entries
+-- what holds of every process: it is within its budget, its journal is one of signals and ticks, what waits outside stands for entries
 -- that are due, the state of its run is good, and no more pends than instructions and entries brought
 pub record IsSound (p : Engine) : Type 0 where
   pub within : p.instructions ≤ p.rules.settings.budget
@@ -122,7 +122,7 @@ pub record IsSound (p : Engine) : Type 0 where
   pub settings : p.kernel.settings ≡ p.rules.settings
   pub journal : p.kernel.outside.journal ≡ p.rules.journal
   pub whole : IsJournal p.rules.journal
-  pub signals : AreSignals p.rules.journal.entries
+  pub built : AreSignalsOrTicks p.rules.journal.entries
   pub outside : StandsOutside p.kernel.outside (taken_of p.kernel.outside)
   pub prompt : ArePrompt p.rules (moment_of p) p.kernel.outside
   pub good : IsGood (owed_of p).state

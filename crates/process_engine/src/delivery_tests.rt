@@ -1,6 +1,6 @@
 //! Deliveries to thread 1, which is ready or waits, to what their reports tell.
 
-ghost use Rattle.std.specs.Prelude.{◌≡◌, ◌≤◌, ◌<◌, ◌+◌, ℕ, [], false, IfOk, IfSome, length};
+ghost use Rattle.std.specs.Prelude.{◌≡◌, ◌≤◌, ◌<◌, ◌+◌, ◌^◌, ℕ, [], true, false, IfOk, IfSome, length};
 ghost use Rattle.posix_model.specs.Calls.{call as call_of};
 ghost use Rattle.posix_model.specs.Good.{IsSoundWait};
 ghost use Rattle.posix_model.specs.State.{Waits, EndOf, MutexAt, ConditionAt, aim, is_target};
@@ -69,14 +69,21 @@ fn start<R: Ready + Drop>(alloc: Global, ready: R) -> Result<Kernel<R>, NoMemory
     Kernel::new(alloc, ready, memory, EntryPoint(0x10000), settings)
 }
 
-/// The thread that runs; None where none does, or the process is over.
+/// Whether the time is far below the limit of the clock.
+fn has_time<R: Ready + Drop>(k: &Kernel<R>) -> bool
+    ensures { result ≡ true → (view R.order k.now.tables).now < 2 ^ 31 }
+{
+    k.tables().ticks() < 0x8000_0000
+}
+
+/// The thread that runs; None where none does, the process is over, or no time is left.
 fn runner<R: Ready + Drop>(k: &Kernel<R>) -> Option<Tid>
     requires idle { IsIdle k.now }
     requires most { pending_in_all (view R.order k.now.tables) ≤ 100 }
     ensures { IfSome result (CanBegin R.order k.now) }
 {
     let t = k.chosen()?;
-    if k.tables().over().is_some() {
+    if k.tables().over().is_some() || !has_time(k) {
         return None;
     }
     Some(t)
@@ -240,11 +247,14 @@ struct Told {
     is_over: bool,
 }
 
-/// What is told of the next delivery; None where none is next.
+/// What is told of the next delivery; None where none is next, or no time is left.
 fn deliver<R: Ready + Drop>(k: &mut Kernel<R>) -> Option<Told>
     requires idle { IsIdle k.old }
     requires most { pending_in_all (view R.order k.old.tables) ≤ 100 }
 {
+    if !has_time(k) {
+        return None;
+    }
     let (t, s, of_process) = k.tables().next_delivery()?;
     begin_delivery(k, t, s, of_process);
     let report = k.finish();

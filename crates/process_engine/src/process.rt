@@ -7,7 +7,7 @@ ghost use Rattle.posix_model.specs.Scheduling.{chosen};
 ghost use Rattle.replay_io.specs.Writing.{Writes};
 ghost use Rattle.trace_text.specs.Output.{IsReadable};
 ghost use Rattle.posix_model.specs.Runs.{is_waiting};
-ghost use Rattle.dispatcher.specs.Arriving.{is_empty, AreSignals};
+ghost use Rattle.dispatcher.specs.Arriving.{is_empty, AreSignalsOrTicks};
 ghost use Rattle.process_engine.specs.Engine.{Engine, IsSound, rules_of, next_place, stop_of, is_due, position_of, moment_of, order};
 ghost use Rattle.process_engine.specs.Turns.{Presents, Completes, IsTurn, Goes, Runs};
 ghost use Rattle.process_engine.specs.Advancing.{Advances, Proceeds};
@@ -67,7 +67,7 @@ impl Process {
     ) -> Result<Process, NoMemory>
         requires budget { settings.budget ≤ 1000000000 }
         requires quantum { (1 ≤ settings.quantum) × (settings.quantum ≤ 1000) }
-        requires signals { AreSignals journal.entries }
+        requires built { AreSignalsOrTicks journal.entries }
         ensures start { IfOk result (λ p. moment_of p ≡ start mem entry.0) }
         ensures at_rest { IfOk result (λ p. (position_of p).telling ≡ None) }
         ensures rules { IfOk result (λ p. p.rules ≡ rules_of settings journal) }

@@ -1,5 +1,5 @@
 pub mod WordLemmas
-pub mod Signals
+pub mod Built
 pub mod FailureLines
 pub mod PlaceLines
 pub mod Faults

@@ -299,9 +299,9 @@ fn refused_entries(rt: HostRuntime) -> Result<(), Fail> {
             b"fsu-journal 1\n0.0 eof\n1.0 data 00\n",
             b"fsu_replay: journal refused: AfterEof 3\n",
         ),
-        // a journal, whose tick is not presented yet
+        // a journal, whose input is not presented yet
         (
-            b"fsu-journal 1\n1.0 sig 10\n2.0 tick\n",
+            b"fsu-journal 1\n1.0 tick\n2.0 data 00\n",
             b"fsu_replay: journal refused: Line 3\n",
         ),
     ];

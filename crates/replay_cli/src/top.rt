@@ -5,7 +5,7 @@ ghost use Rattle.rv_exec.specs.Window.{IsMemorySize};
 ghost use Rattle.elf_image.specs.Refusal.{first_refusal};
 ghost use Rattle.replay_io.specs.Writing.{Rose};
 ghost use Rattle.posix_model.specs.Start as machine;
-ghost use Rattle.dispatcher.specs.Arriving.{AreSignals};
+ghost use Rattle.dispatcher.specs.Arriving.{AreSignalsOrTicks};
 ghost use Rattle.process_engine.specs.Engine.{moment_of, position_of};
 ghost use Rattle.replay_cli.specs.Words.{are_accepted, request, image_name, journal_name};
 ghost use Rattle.replay_cli.specs.Journal.{first_refused};
@@ -78,7 +78,7 @@ fn accept_journal<F: Files>(alloc: Global, name: &str, files: &mut F) -> Result<
     ensures accepted { OnOk result (IsJournal (F.content files.old name.now)) }
     ensures entries { IfOk result (λ j. IfSome (F.content files.old name.now) (λ journal. j ≡ entries_of (loaded journal))) }
     ensures journal { IfOk result valid.IsJournal }
-    ensures signals { IfOk result (λ j. AreSignals j.entries) }
+    ensures built { IfOk result (λ j. AreSignalsOrTicks j.entries) }
     ensures cause { IfErr result (JournalCause (F.content files.old name.now) (F.faults files.old name.now) (F.faults files.new name.now)) }
     ensures same { (n : List ℕ) → F.content files.new n ≡ F.content files.old n }
     ensures later { (n : List ℕ) → F.faults files.old n ≤ F.faults files.new n }

@@ -7,7 +7,7 @@ pub invariant_of-result : goal.invariant_of-result
 invariant_of-result c =
     let start = c.in_ok-kernel.ensures in
     first_sound c.in_ok-kernel.kernel c.args.journal c.args.settings c.args.mem c.args.entry.0 start.start start.idle start.outside start.settings c.attach.new.self c.in_ok-attach.ensures.made
-    c.stop_before-stop.result c.next_place.ensures.sound c.len-journal.ensures.journal c.requires.signals c.requires.budget
+    c.stop_before-stop.result c.next_place.ensures.sound c.len-journal.ensures.journal c.requires.built c.requires.budget
     (c.stop_before-stop.ensures ∙ ap (stop_of c.args.settings.budget) c.next_place.ensures.place)
 
 pub returns-clause-start : goal.returns-clause-start
