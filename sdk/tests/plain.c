@@ -1,9 +1,13 @@
 /* Without a C library: constructors, thread-local storage, and what compilers call by themselves. */
 #include "check.h"
 
+enum { MOST_ROUTINES = 32 };
+
+int atexit(void (*routine)(void));
+
 struct large { uint32_t words[64]; };
 
-static uint32_t order;
+static uint32_t order, routines_run;
 static __thread uint32_t counted = 5;
 static uint8_t stack[4096] __attribute__((aligned(16)));
 static volatile uint32_t size = 200;
@@ -30,6 +34,25 @@ __attribute__((constructor)) static void run_second(void)
 __attribute__((destructor)) static void run_last(void)
 {
     fsu_write(1, "last\n", 5);
+}
+
+static void run_before(void)
+{
+    routines_run++;
+}
+
+static void run_after(void)
+{
+    CHECK(routines_run == MOST_ROUTINES - 1);
+    fsu_write(1, "registered first\n", 17);
+}
+
+static void check_routines(void)
+{
+    CHECK(atexit(run_after) == 0);
+    for (uint32_t i = 1; i < MOST_ROUTINES; i++)
+        CHECK(atexit(run_before) == 0);
+    CHECK(atexit(run_before) != 0);
 }
 
 static void check_divisions(void)
@@ -90,5 +113,6 @@ int main(int argc, char **argv)
     check_divisions();
     check_memory();
     check_storage();
+    check_routines();
     return 0;
 }
