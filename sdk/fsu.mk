@@ -53,8 +53,8 @@ FSU_FLAGS += $(if $(FSU_LIBC),-isystem $(PICOLIBC)/include,-ffreestanding)
 
 # libfsu.a is the kit; libbase.a is what stands in where there is no picolibc and no libgcc.
 FSU_OUT := $(BUILD)/kit
-FSU_BASE := division.c errno.c
-FSU_WITH_LIBC := stdio.c strerror.c locks.c clock.c cxx.c
+FSU_BASE := division.c errno.c seconds.c
+FSU_WITH_LIBC := stdio.c strerror.c locks.c timeofday.c cxx.c
 FSU_MEMBERS := $(filter-out start.S $(FSU_BASE) $(if $(FSU_LIBC),,$(FSU_WITH_LIBC)),$(notdir $(wildcard $(FSU_SDK)/source/*.[cS])))
 FSU_KIT := $(FSU_OUT)/start.S.o $(FSU_OUT)/libfsu.a $(FSU_OUT)/libbase.a
 FSU_LIBS := -Wl,--start-group $(FSU_OUT)/libfsu.a $(FSU_LIBC) $(FSU_LIBGCC) $(FSU_OUT)/libbase.a -Wl,--end-group

@@ -301,20 +301,22 @@ FSU_INLINE fsu_answer fsu_wait_signal(uint32_t set)
     return fsu_call(289, set, 0, 0, 0);
 }
 
-/* To come: time. Ticks come from the journal, and a deadline is a number of ticks since the start. */
+/* Time. Ticks come from the journal, and a deadline is a number of ticks since the start. */
 
+/* As fsu_cond_wait, but at the deadline the wait ends with FSU_ETIMEDOUT; then too the mutex is the caller's again. */
 FSU_INLINE fsu_error fsu_cond_timedwait(uint32_t condition, uint32_t mutex, uint32_t deadline)
 {
     return fsu_call(283, condition, mutex, deadline, 0).error;
 }
 
-/* Answers FSU_EINTR and the ticks that are left where a handler ended the sleep. */
+/* Waits for so many ticks. Answers FSU_EINTR and the ticks that are left where a handler ended the sleep. */
 FSU_INLINE fsu_answer fsu_sleep(uint32_t ticks)
 {
     return fsu_call(292, ticks, 0, 0, 0);
 }
 
-/* Sets the alarm, or clears it with 0. Answers the ticks that were left. */
+/* Lets the signal 14 come after so many ticks, in place of an alarm that was set before; 0 only clears that. Answers
+   the ticks that were left of it. */
 FSU_INLINE fsu_answer fsu_alarm(uint32_t ticks)
 {
     return fsu_call(293, ticks, 0, 0, 0);

@@ -146,7 +146,7 @@ void fsu_pop_cleanup(struct fsu_cleanup *cleanup, int run);
 #define pthread_cleanup_pop(run) \
     fsu_pop_cleanup(&fsu_cleanup_here, (run)); } while (0)
 
-/* To come: a wait with an end. A tick is 10 ms, and the time counts from the start of the program. */
+/* A wait with an end, which counts from the start of the program. It ends at the first tick that is no earlier. */
 int pthread_cond_timedwait(pthread_cond_t *__restrict condition, pthread_mutex_t *__restrict mutex,
                            const struct timespec *__restrict end);
 

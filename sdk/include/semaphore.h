@@ -25,7 +25,7 @@ int sem_trywait(sem_t *semaphore);
 int sem_post(sem_t *semaphore);
 int sem_getvalue(sem_t *__restrict semaphore, int *__restrict value);
 
-/* To come, as pthread_cond_timedwait. */
+/* With an end as that of pthread_cond_timedwait. */
 int sem_timedwait(sem_t *__restrict semaphore, const struct timespec *__restrict end);
 
 #ifdef __cplusplus

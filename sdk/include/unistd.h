@@ -26,9 +26,11 @@ void _exit(int value) __attribute__((noreturn));
 pid_t getpid(void);             /* always 1 */
 void *sbrk(ptrdiff_t more);     /* picolibc's */
 
-/* To come: until the program makes the calls, read and usleep answer -1, and sleep the whole time as not slept, with
-   ENOSYS in errno; alarm answers 0. */
+/* To come: until the program makes the call, read answers -1 with ENOSYS in errno. */
 ssize_t read(int descriptor, void *bytes, size_t length);
+
+/* In ticks of 10 ms, as time.h tells. What is left, of a sleep that a handler ended or of the alarm that was set, is
+   answered in whole seconds that are no fewer. */
 unsigned sleep(unsigned seconds);
 int usleep(useconds_t microseconds);
 unsigned alarm(unsigned seconds);

@@ -40,10 +40,8 @@ int clock_gettime(clockid_t clock, struct timespec *now)
 {
     if (clock != CLOCK_REALTIME && clock != CLOCK_MONOTONIC)
         return told(EINVAL);
-    fsu_answer answer = fsu_clock();
-    if (answer.error == 0)
-        *now = time_of(answer.value);
-    return told(answer.error);
+    *now = time_of(fsu_clock().value);
+    return 0;
 }
 
 int clock_getres(clockid_t clock, struct timespec *resolution)
@@ -82,10 +80,7 @@ unsigned sleep(unsigned seconds)
 {
     fsu_answer answer = fsu_sleep(ticks_of_seconds(seconds));
 
-    if (answer.error == 0)
-        return 0;
-    errno = (int)answer.error;
-    return answer.error == EINTR ? seconds_of_ticks(answer.value) : seconds;
+    return answer.error == 0 ? 0 : seconds_of_ticks(answer.value);
 }
 
 int usleep(useconds_t microseconds)
@@ -98,10 +93,5 @@ int usleep(useconds_t microseconds)
 
 unsigned alarm(unsigned seconds)
 {
-    fsu_answer answer = fsu_alarm(ticks_of_seconds(seconds));
-
-    if (answer.error == 0)
-        return seconds_of_ticks(answer.value);
-    errno = (int)answer.error;
-    return 0;
+    return seconds_of_ticks(fsu_alarm(ticks_of_seconds(seconds)).value);
 }

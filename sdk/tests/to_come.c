@@ -5,7 +5,6 @@
 #include <semaphore.h>
 #include <signal.h>
 #include <stdint.h>
-#include <time.h>
 #include <unistd.h>
 
 /* Of functions that answer an error, and of those that answer -1 and set errno. */
@@ -84,25 +83,6 @@ static void check_protocols(void)
     CHECK(error != 0 || (pthread_mutex_getprioceiling(&mutex, &value) == 0 && value == 30));
 }
 
-static void check_time(void)
-{
-    struct timespec now = { -1, 0 }, none = { 0, 0 }, wrong = { 0, 1000000000 };
-    pthread_cond_t condition = PTHREAD_COND_INITIALIZER;
-    pthread_mutex_t mutex = PTHREAD_MUTEX_INITIALIZER;
-    int is_there = clock_gettime(CLOCK_MONOTONIC, &now) == 0;
-
-    CHECK(is_there ? now.tv_sec == 0 && now.tv_nsec == 0 : errno == ENOSYS && now.tv_sec == -1);
-    CHECK(clock_gettime((clockid_t)99, &now) == -1 && errno == EINVAL);
-    CHECK(nanosleep(&wrong, NULL) == -1 && errno == EINVAL);
-    CHECK(nanosleep(&none, NULL) == (is_there ? 0 : -1) && usleep(0) == (is_there ? 0 : -1));
-    CHECK(sleep(0) == 0 && alarm(0) == 0);
-    CHECK(is_there || sleep(3) == 3);
-    pthread_mutex_lock(&mutex);
-    CHECK(pthread_cond_timedwait(&condition, &mutex, &wrong) == EINVAL);
-    CHECK(pthread_cond_timedwait(&condition, &mutex, &none) == (is_there ? ETIMEDOUT : ENOSYS));
-    CHECK(pthread_mutex_unlock(&mutex) == 0);
-}
-
 static void check_sets(void)
 {
     sigset_t set;
@@ -171,7 +151,6 @@ int main(void)
     check_keys();
     check_cancellation();
     check_protocols();
-    check_time();
     check_sets();
     check_signals();
     CHECK(read(0, NULL, 0) == 0 || errno == ENOSYS);
