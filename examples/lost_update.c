@@ -1,12 +1,12 @@
-/* counter++ of two threads without a mutex, three times each, and updates are lost, since the clock takes the
-   processor from a thread between its load and its store. The journal of this example, journals/lost_update, ticks
-   four times while main counts rounds, the last time after 4,000 instructions: a turn is four ticks, so main's is
-   over, and thread 2 begins. Four ticks more come in its first eight instructions. In the trace: `run 3` stands
-   behind `arrive 8 tick`, where thread 2 has stored 1 and has loaded it again. Thread 3 goes on from that 1 to 4 and
-   ends (`gone 3 4`). Thread 2 stores 2, from what it had loaded, and then 3. So the end is `end exit 3`, not 6.
-   Under the empty journal no turn ends, and the last line is `end exit 6`.
-   The routine is in assembly, so that with each compiler thread 2 has made the same instructions at the last tick; it
-   begins right at the fourth. Main's rounds are longer than the journal. */
+/* counter++ of two threads without a mutex, three times each, and updates are lost, since a turn ends between a load
+   and its store. The journal of this example, journals/lost_update, has four ticks while main counts rounds, the last
+   of them after 4,000 instructions. A turn is four ticks, so main's is over, and thread 2 begins. Four ticks more come
+   in its first eight instructions. In the trace: `run 3` stands behind `arrive 8 tick`, where thread 2 has stored 1 and
+   has loaded it again. Thread 3 counts from that 1 to 4 and ends (`gone 3 4`). Thread 2 stores 2, from what it had
+   loaded, and then 3. So the end is `end exit 3`, not 6. Under the empty journal no turn ends: the last line is
+   `end exit 6`.
+   With each compiler thread 2 has made the same instructions at the last tick: it begins right at the fourth, in the
+   midst of main's rounds, and its routine is in assembly. */
 #include "fsu.h"
 
 enum { TIMES = 3, ROUNDS = 5000 };
