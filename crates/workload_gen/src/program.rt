@@ -77,12 +77,20 @@ fn journal_of(alloc: Global, entries: &[u8]) -> Result<Vec<u8>, Fail> {
     Ok(journal)
 }
 
-/// Replays an image under a journal; the sink with its text. It is an error where the replay does not run, and where
-/// memory ran out.
-pub fn output_of(alloc: Global, image: &[u8], journal: &[u8]) -> Result<MemSink, Fail> {
+/// Replays an image under a journal with the words of some options; the sink with its text. It is an error where the
+/// replay does not run, and where memory ran out.
+fn output_with(
+    alloc: Global,
+    options: &[&str],
+    image: &[u8],
+    journal: &[u8],
+) -> Result<MemSink, Fail> {
     let mut words = Words::new(alloc);
     words.push("image")?;
     words.push("journal")?;
+    for option in options {
+        words.push(option)?;
+    }
     let mut files = MemFiles::new(alloc, &[])?;
     files.add("image", image)?;
     files.add("journal", journal)?;
@@ -94,17 +102,29 @@ pub fn output_of(alloc: Global, image: &[u8], journal: &[u8]) -> Result<MemSink,
     }
 }
 
-/// Whether the replay of a program under a journal has this text.
-fn has_text(alloc: Global, items: &[Item], journal: &[u8], text: &[u8]) -> Result<bool, Fail> {
+/// Replays an image under a journal without options; the sink with its text. It is an error where the replay does not
+/// run, and where memory ran out.
+pub fn output_of(alloc: Global, image: &[u8], journal: &[u8]) -> Result<MemSink, Fail> {
+    output_with(alloc, &[], image, journal)
+}
+
+/// Whether the replay of a program under a journal with the words of some options has this text.
+fn has_text(
+    alloc: Global,
+    options: &[&str],
+    items: &[Item],
+    journal: &[u8],
+    text: &[u8],
+) -> Result<bool, Fail> {
     let image = image_of(alloc, items)?;
-    let out = output_of(alloc, &image, journal)?;
+    let out = output_with(alloc, options, &image, journal)?;
     Ok(out.bytes() == text)
 }
 
 /// The first row, from 0, whose replay has another text; None where each has its own.
 pub fn first_other(alloc: Global, rows: &[Row<'_>]) -> Result<Option<usize>, Fail> {
     for (index, row) in rows.iter().enumerate() {
-        if !has_text(alloc, row.items, HEADER, row.text)? {
+        if !has_text(alloc, &[], row.items, HEADER, row.text)? {
             return Ok(Some(index));
         }
     }
@@ -113,9 +133,19 @@ pub fn first_other(alloc: Global, rows: &[Row<'_>]) -> Result<Option<usize>, Fai
 
 /// The first row with entries, from 0, whose replay has another text; None where each has its own.
 pub fn first_other_under(alloc: Global, rows: &[JournalRow<'_>]) -> Result<Option<usize>, Fail> {
+    first_other_with(alloc, &[], rows)
+}
+
+/// The first row with entries, from 0, whose replay with the words of some options has another text; None where each
+/// has its own.
+pub fn first_other_with(
+    alloc: Global,
+    options: &[&str],
+    rows: &[JournalRow<'_>],
+) -> Result<Option<usize>, Fail> {
     for (index, row) in rows.iter().enumerate() {
         let journal = journal_of(alloc, row.entries)?;
-        if !has_text(alloc, row.items, &journal, row.text)? {
+        if !has_text(alloc, options, row.items, &journal, row.text)? {
             return Ok(Some(index));
         }
     }
