@@ -8,11 +8,12 @@ mod report;
 mod tally;
 
 pub use line::{Line, put_line};
-pub use report::{put_end, put_report, put_run};
+pub use report::{put_end, put_ending, put_report, put_run};
 pub use tally::Counts;
 
-/// What is written of a run: its whole trace.
+/// What is written of a run: its trace, or plain text, which is what its threads wrote to descriptors 1 and 2.
 #[derive(Clone, Copy, Debug, PartialEq, Eq)]
 pub enum Mode {
     Trace,
+    Plain,
 }

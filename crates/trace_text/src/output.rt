@@ -3,6 +3,7 @@ ghost use Rattle.replay_io.specs.Writing.{Writes};
 ghost use Rattle.rv_exec.specs.Window.{is_inside};
 ghost use Rattle.posix_model.specs.Lines.{hex, out_head, out_text, out_line};
 ghost use Rattle.trace_text.specs.Output.{IsReadable};
+ghost use Rattle.trace_text.specs.Texts.{written};
 
 use crate::line::Line;
 use posix_model::Report;
@@ -81,4 +82,16 @@ pub fn put_out<O: Sink>(r: &Report, mem: &Memory, out: &mut O) -> Result<(), Sin
         mem.part(r.out_buf, r.out_len as usize),
         out,
     )
+}
+
+/// Writes the bytes themselves that a move wrote.
+#[tactic(auto, using(replay_io::proofs::WritingLemmas::writes_nothing))]
+pub fn put_written<O: Sink>(r: &Report, mem: &Memory, out: &mut O) -> Result<(), SinkFailed>
+    requires { IsReadable r.now mem.now }
+    ensures { Writes result (O.written out.old) (O.written out.new) (O.faults out.old) (O.faults out.new) (written r.now mem.now) }
+{
+    if r.out_len == 0 {
+        return Ok(());
+    }
+    out.put(mem.part(r.out_buf, r.out_len as usize))
 }

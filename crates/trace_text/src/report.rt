@@ -2,11 +2,12 @@ ghost use Rattle.std.specs.Prelude.{◌≡◌, ◌<◌, ◌≤◌, ◌+◌, ◌+
 ghost use Rattle.replay_io.specs.Writing.{Writes};
 ghost use Rattle.posix_model.specs.Lines.{line, number, arrival, reply_text, special_text, head_line, alarm_line, took_line, gone_line, done_line, done_lines, count_lines, out_line, first_lines, signal_lines, thread_lines, lines, run_line, end_line, end_lines};
 ghost use Rattle.trace_text.specs.Output.{IsReadable};
+ghost use Rattle.trace_text.specs.Texts.{lines_in};
 
 use crate::Mode;
 use crate::counts::put_counts_under;
 use crate::line::{Line, put_line};
-use crate::output::put_out;
+use crate::output::{put_out, put_written};
 use posix_model::{Ending, Head, Reply, Report};
 use replay_io::{Sink, SinkFailed};
 use rv_exec::{Memory, Special};
@@ -241,10 +242,19 @@ fn put_rest<O: Sink>(r: &Report, out: &mut O) -> Result<(), SinkFailed>
     put_threads(r, out)
 }
 
-/// Writes the lines of one move. The bytes of an out line are those of `mem`.
-/// Ok appended exactly the lines and leaves the sink's count of faults; SinkFailed comes only where
-/// the count rose, and then a front of the lines was appended.
+/// Writes the lines of one move, in their order.
 #[tactic(auto, unfolding(posix_model::specs::Lines::lines))]
+fn put_lines<O: Sink>(r: &Report, mem: &Memory, out: &mut O) -> Result<(), SinkFailed>
+    requires { IsReadable r.now mem.now }
+    ensures { Writes result (O.written out.old) (O.written out.new) (O.faults out.old) (O.faults out.new) (lines r.now mem.now) }
+{
+    put_first(r, mem, out)?;
+    put_rest(r, out)
+}
+
+/// Writes the text of one move: its lines in a trace, and in plain text the bytes that it wrote, which are those of
+/// `mem`. Ok appended exactly the text and leaves the sink's count of faults; SinkFailed comes only where the count
+/// rose, and then a front of the text was appended.
 pub fn put_report<O: Sink>(
     r: &Report,
     mem: &Memory,
@@ -252,11 +262,12 @@ pub fn put_report<O: Sink>(
     out: &mut O,
 ) -> Result<(), SinkFailed>
     requires { IsReadable r.now mem.now }
-    ensures { Writes result (O.written out.old) (O.written out.new) (O.faults out.old) (O.faults out.new) (lines r.now mem.now) }
+    ensures { Writes result (O.written out.old) (O.written out.new) (O.faults out.old) (O.faults out.new) (lines_in mode r.now mem.now) }
 {
-    let Mode::Trace = mode;
-    put_first(r, mem, out)?;
-    put_rest(r, out)
+    match mode {
+        Mode::Trace => put_lines(r, mem, out),
+        Mode::Plain => put_written(r, mem, out),
+    }
 }
 
 /// Writes the line before an instruction of another thread than the last; Ok and SinkFailed as at `put_report`.
@@ -267,9 +278,9 @@ pub fn put_run<O: Sink>(t: Tid, out: &mut O) -> Result<(), SinkFailed>
     put_line(b"run", &[u64::from(t.number())], out)
 }
 
-/// Writes the last line.
+/// Writes the line of the ending, the last of a trace; Ok and SinkFailed as at `put_report`.
 #[tactic(auto, unfolding(posix_model::specs::Lines::end_line))]
-fn put_ending<O: Sink>(ending: &Ending, out: &mut O) -> Result<(), SinkFailed>
+pub fn put_ending<O: Sink>(ending: &Ending, out: &mut O) -> Result<(), SinkFailed>
     ensures { Writes result (O.written out.old) (O.written out.new) (O.faults out.old) (O.faults out.new) (end_line ending.now) }
 {
     match *ending {
