@@ -4,7 +4,6 @@ use Rattle.posix_model.specs.Changes.{Outcome}
 use Rattle.posix_model.specs.Instructions.{instruction}
 use Rattle.posix_model.specs.Reports.{nothing_told}
 use Rattle.posix_model.specs.Runs.{Rules, Moment, Allowed, IsRun, Ends, make, moved, after}
-use Rattle.posix_model.specs.Trace.{text, switch_line}
 use Rattle.posix_model.specs.Lines.{lines}
 use Rattle.posix_model.specs.declared.Move.{Move}
 use Rattle.posix_model.specs.declared.Ending.{Ending}
@@ -12,6 +11,8 @@ use Rattle.posix_model.specs.declared.Head.{Head}
 use Rattle.posix_model.specs.declared.Head.TheVariants.{Quiet}
 use Rattle.posix_model.specs.declared.Report.{Report}
 use Rattle.trace_text.specs.Counting.{no_counts, is_arrival, is_delivery, counted, counts, told_of, told_by as added_by}
+use Rattle.trace_text.specs.Texts.{lines_in, switch_in, text_in}
+use Rattle.trace_text.specs.declared.Mode.{Mode}
 use Rattle.trace_text.specs.declared.tally.Counts.{Counts}
 use Rattle.kernel_state.specs.View.{view}
 use Rattle.kernel_state.specs.Kernels.{KernelState, remaining, IsIdle, owed_by}
@@ -89,29 +90,33 @@ Advances p (Switched before) q = MakesPlain p q × (before ≡ p.last)
 Advances p (Begun before) q = BeginsMove p q × (before ≡ p.last)
 Advances p (End ending) q = EndsHere p q ending
 
--- some moves were made, with what was told of them and their text
-pub record Makes (rules : Rules) (old new : Moment) (told : Counts) (trace : List ℕ) : Type 0 where
+-- no text, in each mode
+abbrev pub no_text : Mode → List ℕ
+no_text mode = []
+
+-- some moves were made, with what was told of them and their text in each mode
+pub record Makes (rules : Rules) (old new : Moment) (told : Counts) (trace : Mode → List ℕ) : Type 0 where
   pub moves : List Move
   pub run : IsRun rules old moves
   pub leads : new ≡ after rules old moves
   pub tells : told ≡ told_of (counts rules old moves)
-  pub text_is : trace ≡ text rules old moves
+  pub text_is : (mode : Mode) → trace mode ≡ text_in mode rules old moves
 
 -- the same, and one move at least was made
-pub record MakesSome (rules : Rules) (old new : Moment) (told : Counts) (trace : List ℕ) : Type 0 where
+pub record MakesSome (rules : Rules) (old new : Moment) (told : Counts) (trace : Mode → List ℕ) : Type 0 where
   pub makes : Makes rules old new told trace
   pub some : 1 ≤ length makes.moves
 
 -- moves were made that write no text, and then one that is told by its report; by whom the last instruction before was made
 abbrev pub MakesTold : Rules → Moment → Option ℕ → Report → Moment → Type 0
 MakesTold rules old before report new =
-    MakesSome rules old new (added_by before new.last report.head) (switch_line before new.last ++ lines report new.state.memory)
+    MakesSome rules old new (added_by before new.last report.head) (λ mode. switch_in mode before new.last ++ lines_in mode report new.state.memory)
 
 -- moves were made that write no text, and then one more, which may write some, or the run has ended
 abbrev pub Proceeds : Rules → Engine → Advance → Engine → Type 0
 Proceeds rules p Plain q = ⊥
 Proceeds rules p (Switched before) q =
-    MakesSome rules (moment_of p) (moment_of q) (added_by before q.last Quiet) (switch_line before q.last) × (q.stage ≡ Going)
+    MakesSome rules (moment_of p) (moment_of q) (added_by before q.last Quiet) (λ mode. switch_in mode before q.last) × (q.stage ≡ Going)
 Proceeds rules p (Begun before) q = MakesTold rules (moment_of p) before (owed_of q).report (moment_of q) × (q.stage ≡ InCall)
 Proceeds rules p (End ending) q =
-    Makes rules (moment_of p) (moment_of q) no_counts [] × Ends rules (moment_of q) ending × ((position_of q).telling ≡ None)
+    Makes rules (moment_of p) (moment_of q) no_counts no_text × Ends rules (moment_of q) ending × ((position_of q).telling ≡ None)

@@ -4,13 +4,14 @@ use Rattle.kernel_state.specs.Outside.{present}
 use Rattle.replay_io.specs.Writing.{WritesWhole, WritesFront}
 use Rattle.trace_text.specs.Output.{IsReadable}
 use Rattle.posix_model.specs.Runs.{Rules, Moment, Allowed, Ends, make, moved}
-use Rattle.posix_model.specs.Trace.{IsWholeText, IsText}
 use Rattle.posix_model.specs.Lines.{lines}
 use Rattle.posix_model.specs.declared.Ending.{Ending}
 use Rattle.posix_model.specs.declared.Move.{Move}
 use Rattle.posix_model.specs.declared.Head.TheVariants.{Quiet as QuietHead}
 use Rattle.posix_model.specs.declared.Report.{Report}
 use Rattle.trace_text.specs.Counting.{counts}
+use Rattle.trace_text.specs.Texts.{IsWholeIn, IsTextIn}
+use Rattle.trace_text.specs.declared.Mode.{Mode}
 use Rattle.kernel_state.specs.Small.{IsSmall}
 use Rattle.process_engine.specs.Engine.{Engine, Position, position_of}
 use Rattle.process_engine.specs.declared.Turn.{Turn}
@@ -76,32 +77,32 @@ IsTurn rules old Quiet new = Moves rules old new ⊎ Leaves old new
 IsTurn rules old (MadeTurn report) new = CompletesLast old report new
 IsTurn rules old (Ended ending) new = Stops rules old ending new
 
--- the whole text of one ended run was written, and its counts are told
-pub record RunsWhole (rules : Rules) (start : Moment) (done : Done) (before after : Option (List ℕ)) (faults_before faults_after : ℕ) : Type 0 where
+-- the whole text of one ended run was written in a mode, and its counts are told
+pub record RunsWhole (mode : Mode) (rules : Rules) (start : Moment) (done : Done) (before after : Option (List ℕ)) (faults_before faults_after : ℕ) : Type 0 where
   pub trace : List ℕ
-  pub whole : IsWholeText rules start done.ending trace
+  pub whole : IsWholeIn mode rules start done.ending trace
   pub counted : done.counts ≡ counts rules start whole.moves
   pub written : WritesWhole before after faults_before faults_after trace
 
 -- a front of the text of a run so far was written, and then the sink failed
-pub record RunsPart (rules : Rules) (start : Moment) (before after : Option (List ℕ)) (faults_before faults_after : ℕ) : Type 0 where
+pub record RunsPart (mode : Mode) (rules : Rules) (start : Moment) (before after : Option (List ℕ)) (faults_before faults_after : ℕ) : Type 0 where
   pub trace : List ℕ
-  pub part : IsText rules start trace
+  pub part : IsTextIn mode rules start trace
   pub written : WritesFront before after faults_before faults_after trace
 
 -- a front of the whole text of one ended run was written, and then the sink failed
-pub record RunsFront (rules : Rules) (start : Moment) (before after : Option (List ℕ)) (faults_before faults_after : ℕ) : Type 0 where
+pub record RunsFront (mode : Mode) (rules : Rules) (start : Moment) (before after : Option (List ℕ)) (faults_before faults_after : ℕ) : Type 0 where
   pub ending : Ending
   pub trace : List ℕ
-  pub whole : IsWholeText rules start ending trace
+  pub whole : IsWholeIn mode rules start ending trace
   pub written : WritesFront before after faults_before faults_after trace
 
 -- a run from a start as far as it went: whole at Ok, with its ending, and a front of one so far where the sink failed
-abbrev pub Goes : {E : Type 0} → Rules → Moment → Result Done E → Option (List ℕ) → Option (List ℕ) → ℕ → ℕ → Type 0
-Goes rules start (Ok done) before after faults_before faults_after = RunsWhole rules start done before after faults_before faults_after
-Goes rules start (Err error) before after faults_before faults_after = RunsPart rules start before after faults_before faults_after
+abbrev pub Goes : {E : Type 0} → Mode → Rules → Moment → Result Done E → Option (List ℕ) → Option (List ℕ) → ℕ → ℕ → Type 0
+Goes mode rules start (Ok done) before after faults_before faults_after = RunsWhole mode rules start done before after faults_before faults_after
+Goes mode rules start (Err error) before after faults_before faults_after = RunsPart mode rules start before after faults_before faults_after
 
 -- a run from a start: whole at Ok, with its ending, and a front of the text of one where the sink failed
-abbrev pub Runs : {E : Type 0} → Rules → Moment → Result Done E → Option (List ℕ) → Option (List ℕ) → ℕ → ℕ → Type 0
-Runs rules start (Ok done) before after faults_before faults_after = RunsWhole rules start done before after faults_before faults_after
-Runs rules start (Err error) before after faults_before faults_after = RunsFront rules start before after faults_before faults_after
+abbrev pub Runs : {E : Type 0} → Mode → Rules → Moment → Result Done E → Option (List ℕ) → Option (List ℕ) → ℕ → ℕ → Type 0
+Runs mode rules start (Ok done) before after faults_before faults_after = RunsWhole mode rules start done before after faults_before faults_after
+Runs mode rules start (Err error) before after faults_before faults_after = RunsFront mode rules start before after faults_before faults_after

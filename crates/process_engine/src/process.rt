@@ -1,11 +1,11 @@
 ghost use Rattle.std.specs.Prelude.{◌≡◌, ◌<◌, ◌≤◌, ◌&&◌, ◌++◌, ℕ, true, false, IfOk, None, length};
 ghost use Rattle.posix_model.specs.Start.{start};
-ghost use Rattle.posix_model.specs.Trace.{switch_line};
-ghost use Rattle.posix_model.specs.Lines.{lines};
+ghost use Rattle.posix_model.specs.Trace.{left};
 ghost use Rattle.posix_model.specs.Deliveries.{next_delivery};
 ghost use Rattle.posix_model.specs.Scheduling.{chosen};
 ghost use Rattle.replay_io.specs.Writing.{Writes};
 ghost use Rattle.trace_text.specs.Output.{IsReadable};
+ghost use Rattle.trace_text.specs.Texts.{lines_in, switch_in, end_in};
 ghost use Rattle.posix_model.specs.Runs.{is_waiting};
 ghost use Rattle.dispatcher.specs.Arriving.{is_empty, AreSignalsOrTicks};
 ghost use Rattle.process_engine.specs.Engine.{Engine, IsSound, rules_of, next_place, stop_of, is_due, position_of, moment_of, order};
@@ -317,11 +317,19 @@ impl Process {
         report
     }
 
-    /// Writes the line before an instruction of another thread than the last.
+    /// Writes the line before an instruction of another thread than the last; plain text has none.
     #[tactic(auto, using(replay_io::proofs::WritingLemmas::writes_nothing))]
-    fn put_switch<O: Sink>(&self, before: &Option<Tid>, out: &mut O) -> Result<(), SinkFailed>
-        ensures { Writes result (O.written out.old) (O.written out.new) (O.faults out.old) (O.faults out.new) (switch_line before.now self.now.last) }
+    fn put_switch<O: Sink>(
+        &self,
+        before: &Option<Tid>,
+        mode: Mode,
+        out: &mut O,
+    ) -> Result<(), SinkFailed>
+        ensures { Writes result (O.written out.old) (O.written out.new) (O.faults out.old) (O.faults out.new) (switch_in mode before.now self.now.last) }
     {
+        let Mode::Trace = mode else {
+            return Ok(());
+        };
         let Some(t) = self.last else {
             return Ok(());
         };
@@ -356,16 +364,28 @@ impl Process {
     ) -> Result<(), SinkFailed>
         requires readable { IsReadable report.now (moment_of self.now).state.memory }
         requires at_rest { (position_of self.now).telling ≡ None }
-        ensures { Writes result (O.written out.old) (O.written out.new) (O.faults out.old) (O.faults out.new) (switch_line before.now self.now.last ++ lines report.now (moment_of self.now).state.memory) }
+        ensures { Writes result (O.written out.old) (O.written out.new) (O.faults out.old) (O.faults out.new) (switch_in mode before.now self.now.last ++ lines_in mode report.now (moment_of self.now).state.memory) }
     {
-        self.put_switch(before, out)?;
+        self.put_switch(before, mode, out)?;
         put_report(report, self.tables().memory(), mode, out)
+    }
+
+    /// Writes the end of the text of a run: of a trace what still pends and the ending, and of plain text nothing.
+    #[tactic(auto, using(replay_io::proofs::WritingLemmas::writes_nothing))]
+    fn put_last<O: Sink>(&self, ending: &Ending, mode: Mode, out: &mut O) -> Result<(), SinkFailed>
+        requires { (position_of self.now).telling ≡ None }
+        ensures { Writes result (O.written out.old) (O.written out.new) (O.faults out.old) (O.faults out.new) (end_in mode (left (moment_of self.now).state) ending.now) }
+    {
+        match mode {
+            Mode::Trace => put_end(ending, &self.left(), out),
+            Mode::Plain => Ok(()),
+        }
     }
 
     /// Makes the rest of the run and writes its text.
     fn run_on<O: Sink>(&mut self, out: &mut O, mode: Mode) -> Result<Done, SinkFailed>
         requires { (position_of self.old).telling ≡ None }
-        ensures { Goes self.old.rules (moment_of self.old) result (O.written out.old) (O.written out.new) (O.faults out.old) (O.faults out.new) }
+        ensures { Goes mode self.old.rules (moment_of self.old) result (O.written out.old) (O.written out.new) (O.faults out.old) (O.faults out.new) }
     {
         self.sound();
         let first = self.instructions;
@@ -375,7 +395,7 @@ impl Process {
                 Advance::Plain => unreachable!(),
                 Advance::Switched(before) => {
                     told = with_move(told, &before, &self.last, &Head::Quiet);
-                    self.put_switch(&before, out)?;
+                    self.put_switch(&before, mode, out)?;
                 }
                 Advance::Begun(before) => {
                     let report = self.finish();
@@ -383,7 +403,7 @@ impl Process {
                     self.put_made(&before, &report, mode, out)?;
                 }
                 Advance::End(ending) => {
-                    put_end(&ending, &self.tables().left(), out)?;
+                    self.put_last(&ending, mode, out)?;
                     let counts = Counts {
                         instructions: self.instructions - first,
                         ..told
@@ -394,12 +414,12 @@ impl Process {
         }
     }
 
-    /// Runs to the end and writes the text of the run, where no move is in progress. Ok appended the whole text
-    /// of one ended run and tells its ending and counts; WriteFault comes only where the sink's count of faults
+    /// Runs to the end and writes the text of the run, where no move is in progress: its trace, or plain text, which does
+    /// not tell the ending. Ok appended the whole text of one ended run and tells its ending and counts; WriteFault comes only where the sink's count of faults
     /// rose in this call, and then a front of the whole text of one ended run was appended. It takes no memory.
     pub fn run<O: Sink>(mut self, out: &mut O, mode: Mode) -> Result<Done, WriteFault>
         requires { (position_of self).telling ≡ None }
-        ensures { Runs self.rules (moment_of self) result (O.written out.old) (O.written out.new) (O.faults out.old) (O.faults out.new) }
+        ensures { Runs mode self.rules (moment_of self) result (O.written out.old) (O.written out.new) (O.faults out.old) (O.faults out.new) }
     {
         self.sound();
         match self.run_on(out, mode) {

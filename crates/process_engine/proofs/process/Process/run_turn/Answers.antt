@@ -1,7 +1,7 @@
-use Rattle.std.proofs.Common.{◌∙◌, ap, sym, subst, []}
+use Rattle.std.proofs.Common.{◌∙◌, ap, sym, subst}
 use Rattle.trace_text.specs.Counting.{no_counts}
 use Rattle.process_engine.specs.Engine.{Engine, moment_of, owed_of, telling_of}
-use Rattle.process_engine.specs.Advancing.{Makes, Proceeds}
+use Rattle.process_engine.specs.Advancing.{no_text, Makes, Proceeds}
 use Rattle.process_engine.proofs.RunLemmas.{plain_too, plain_falls, stays_good, proceeds, proceeds_after}
 use Rattle.process_engine.proofs.process.Process.run_turn.Goals as goal
 
@@ -31,5 +31,5 @@ returns-clause-proceeds c =
     let now = c.loop-self.invariant in
     let p : Engine = c.args.self.now in
     let m : Engine = c.pause.new.self in
-    let on = subst (λ n. Makes p.rules (moment_of p) n no_counts []) (sym c.pause.ensures.same) now.2 in
+    let on = subst (λ n. Makes p.rules (moment_of p) n no_counts no_text) (sym c.pause.ensures.same) now.2 in
     proceeds_after p.rules p m c.go_on.new.self on c.go_on.result (subst (λ r. Proceeds r m c.go_on.result c.go_on.new.self) (c.pause.ensures.rules ∙ now.0) c.go_on.ensures.proceeds)
