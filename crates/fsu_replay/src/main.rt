@@ -1,5 +1,5 @@
 //! Replays an image of thread programs under a journal of signals:
-//! `fsu_replay IMAGE JOURNAL [--budget N] [--quantum Q] [--mem BYTES]`.
+//! `fsu_replay IMAGE JOURNAL [--budget N] [--quantum Q] [--mem BYTES] [--plain]`.
 #![tactic(auto)]
 
 use replay_cli::{Failure, Status, replay};

@@ -1,5 +1,5 @@
 //! Runs an image of thread programs as `fsu_replay` does, and tells where its threads stand at the end:
-//! `fsu_where IMAGE JOURNAL [--budget N] [--quantum Q] [--mem BYTES]`.
+//! `fsu_where IMAGE JOURNAL [--budget N] [--quantum Q] [--mem BYTES] [--plain]`.
 #![tactic(auto)]
 
 use replay_cli::{Failure, Status, tell_places};

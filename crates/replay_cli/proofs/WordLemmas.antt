@@ -9,7 +9,6 @@ use Rattle.command_words.specs.Program.{is_taken, rows_given}
 use Rattle.posix_model.specs.declared.Settings.{Settings as Run}
 use Rattle.command_words.specs.Accepted.{Origin, named, generated, Settings, accepted, budget_in, quantum_in, memory_in, origin_in, is_plain_in, mode_of, settings_in}
 use Rattle.command_words.specs.declared.options.Mode.{Mode}
-use Rattle.command_words.specs.declared.options.Mode.TheVariants.{Trace, Plain}
 use Rattle.replay_cli.specs.Words.{Request, built, request_in}
 
 -- a number that is limited fits
@@ -95,10 +94,9 @@ words_fit words s e = go (is_taken words) e
 -- a run that is built has these numbers
 built_from : (source : Origin) (mode : Mode) (settings : Run) (memory : ℕ) (r : Request) → Some r ≡ built source mode settings memory
     → (settings ≡ r.settings) × (memory ≡ r.memory)
-built_from (named image journal) Trace settings memory r e =
+built_from (named image journal) mode settings memory r e =
     let same = same_Some r _ e in
     (ap (λ (x : Request). x.settings) (sym same), ap (λ (x : Request). x.memory) (sym same))
-built_from (named image journal) Plain settings memory r e = absurd (cc)
 built_from (generated seed) mode settings memory r e = absurd (cc)
 
 -- what accepted words ask for is within its limits

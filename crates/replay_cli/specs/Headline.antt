@@ -6,9 +6,9 @@ use Rattle.elf_image.specs.Refusal.{first_refusal}
 use Rattle.replay_io.specs.Writing.{Appended, AppendedFront}
 use Rattle.posix_model.specs.Runs.{Rules, Moment}
 use Rattle.posix_model.specs.Start as machine
-use Rattle.posix_model.specs.Trace.{IsWholeText}
 use Rattle.posix_model.specs.declared.Settings.{Settings}
 use Rattle.posix_model.specs.declared.Ending.{Ending}
+use Rattle.trace_text.specs.Texts.{IsWholeIn}
 use Rattle.replay_cli.specs.Words.{Request}
 
 -- the bytes that a load gives of a content: one more than an image or a journal may have
@@ -27,13 +27,12 @@ pub record IsStartOf (size : ℕ) (image : List ℕ) (start : Moment) : Type 0 w
   pub holds : IsStart image (segments_of image) size memory
   pub begins : start ≡ machine.start memory (e_entry image)
 
--- the text of one whole run from an image, under a journal, as it is asked for, came after what was written before; its last line names the ending
-pub record WritesRunOf (asked : Request) (image journal : List ℕ) (before after : Option (List ℕ)) : Type 0 where
+-- the text of one whole run with this ending from an image, under a journal, as it is asked for, came after what was written before
+pub record WritesRunOf (asked : Request) (ending : Ending) (image journal : List ℕ) (before after : Option (List ℕ)) : Type 0 where
   pub start : Moment
   pub of_image : IsStartOf asked.memory image start
-  pub ending : Ending
   pub trace : List ℕ
-  pub whole : IsWholeText (rules_under asked.settings journal) start ending trace
+  pub whole : IsWholeIn asked.mode (rules_under asked.settings journal) start ending trace
   pub told : Appended before after trace
 
 -- a front of the text of one whole run from an image, under a journal, as it is asked for, came after what was written before
@@ -42,5 +41,5 @@ pub record WritesFrontOf (asked : Request) (image journal : List ℕ) (before af
   pub of_image : IsStartOf asked.memory image start
   pub ending : Ending
   pub trace : List ℕ
-  pub whole : IsWholeText (rules_under asked.settings journal) start ending trace
+  pub whole : IsWholeIn asked.mode (rules_under asked.settings journal) start ending trace
   pub told : AppendedFront before after trace

@@ -7,3 +7,4 @@ pub mod Causes
 pub mod Addresses
 pub mod Events
 pub mod Places
+pub mod Beside

@@ -1,4 +1,4 @@
-//! The top calls: words, files and sinks in, a trace or the places of the threads and a status out.
+//! The top calls: words, files and sinks in, the text of a run or the places of its threads and a status out.
 #![tactic(auto)]
 
 mod address;

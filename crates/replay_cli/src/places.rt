@@ -131,7 +131,7 @@ fn attempt_places<F: Files, O: Sink>(
     ensures front { IfErr result (λ f. f ≡ Failure.Output → IfSome (F.content files.old (image_name words.now)) (λ image. IfSome (F.content files.old (journal_name words.now)) (λ journal. TellsFrontOf (request words.now) (loaded image) (loaded journal) (O.written out.old) (O.written out.new)))) }
 {
     let mut process = match accept(alloc, words, files) {
-        Ok(process) => process,
+        Ok(accepted) => accepted.process,
         Err(failure) => return Err(failure),
     };
     let ending = process.run_to_end();
@@ -144,7 +144,8 @@ fn attempt_places<F: Files, O: Sink>(
 /// Makes the run that `replay` makes of the same words and files, and writes to `out` where its threads stand at
 /// its end: for each thread a line, another where a signal ended the run and the thread of the last instruction stands
 /// at a fault with it, and the last lines of the trace. Where it does not come to that it writes one line to `err` and
-/// tells why by its status, as `replay` does.
+/// tells why by its status, as `replay` does. The words are those of `replay`; the option `--plain`, which speaks of the
+/// text of the run, changes nothing here.
 pub fn tell_places<F: Files, O: Sink, E: Sink>(
     alloc: Global,
     words: &Words,

@@ -1,27 +1,39 @@
 ghost use Rattle.std.specs.Prelude.{◌≡◌, ◌≤◌, IfOk, IfErr, OnOk, true, option_map};
 ghost use Rattle.rv_exec.specs.Window.{IsMemorySize};
 ghost use Rattle.command_words.specs.Accepted.{settings_of};
-ghost use Rattle.replay_cli.specs.Words.{are_accepted, request, request_in};
+ghost use Rattle.replay_cli.specs.Words.{are_accepted, mode_by, request, request_in};
 ghost use Rattle.replay_cli.specs.Requests.{request_of};
 ghost use Rattle.replay_cli.specs.Causes.{WordsCause};
 
 use crate::failure::Failure;
-use command_words::{Mode, Options, Source, read_options};
+use command_words::{Mode as AskedMode, Options, Source, read_options};
 use posix_model::Settings;
 use replay_io::Words;
 use std::alloc::Global;
+use trace_text::Mode;
 
-/// A run that the words ask for: the names of the image and of the journal, budget and quantum, and the bytes of
-/// memory.
+/// A run that the words ask for: the names of the image and of the journal, budget and quantum, the bytes of
+/// memory, and what is written of it.
 #[derive(Drop)]
 pub(crate) struct Request {
     pub(crate) image: String,
     pub(crate) journal: String,
     pub(crate) settings: Settings,
     pub(crate) memory: u32,
+    pub(crate) mode: Mode,
 }
 
-/// The run that options ask for; None for plain text and for generated pairs, which are not built yet.
+/// What is written of a run, by the options.
+fn mode_by(mode: AskedMode) -> Mode
+    ensures { result ≡ mode_by mode }
+{
+    match mode {
+        AskedMode::Trace => Mode::Trace,
+        AskedMode::Plain => Mode::Plain,
+    }
+}
+
+/// The run that options ask for; None for generated pairs, which are not built yet.
 fn request_in(options: Options) -> Option<Request>
     ensures { option_map request_of result ≡ request_in (settings_of options) }
 {
@@ -32,7 +44,7 @@ fn request_in(options: Options) -> Option<Request>
         memory,
         mode,
     } = options;
-    let (Source::Files { image, journal }, Mode::Trace) = (source, mode) else {
+    let Source::Files { image, journal } = source else {
         return None;
     };
     Some(Request {
@@ -40,6 +52,7 @@ fn request_in(options: Options) -> Option<Request>
         journal,
         settings: Settings { budget, quantum },
         memory,
+        mode: mode_by(mode),
     })
 }
 

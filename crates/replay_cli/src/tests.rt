@@ -222,6 +222,40 @@ fn options(rt: HostRuntime) -> Result<(), Fail> {
     check_places(&rt, alloc, &asked(&words, places))
 }
 
+/// A case of the smallest image under `--plain`, which runs.
+fn plain<'a>(journal: &'a [u8], out: &'a [u8], err: &'a [u8]) -> Case<'a> {
+    Case {
+        words: &["image", "journal", "--plain"],
+        ..given(&SMALLEST, journal, Status::Ran, out, err)
+    }
+}
+
+#[test]
+fn plain_text(rt: HostRuntime) -> Result<(), Fail> {
+    let alloc = rt.alloc();
+    check(&rt, alloc, &plain(EMPTY, b"hi", b"end exit 3\n"))?;
+    // the signal comes before the write
+    let early = b"fsu-journal 1\n2.0 sig 10\n";
+    check(&rt, alloc, &plain(early, b"", b"end killed 10\n"))?;
+    let budget = Case {
+        words: &["--plain", "image", "--budget=8", "journal"],
+        ..plain(EMPTY, b"hi", b"end budget\n")
+    };
+    check(&rt, alloc, &budget)?;
+    // the text goes out in one put
+    for (taken, front) in [(0u32, b"".as_slice()), (1, b"h")] {
+        let failed = Case {
+            failing_puts: &[(1, taken)],
+            status: Status::WriteFault,
+            ..plain(EMPTY, front, b"fsu_replay: cannot write\n")
+        };
+        check(&rt, alloc, &failed)?;
+    }
+    let places = b"thread 1 ready pc 0x00010074 ra 0xffffffd0 sp 0x00020000\nend budget\n";
+    let words = ["image", "journal", "--plain", "--budget=8", "--mem=65536"];
+    check_places(&rt, alloc, &asked(&words, places))
+}
+
 #[test]
 fn refused_options(rt: HostRuntime) -> Result<(), Fail> {
     let alloc = rt.alloc();
@@ -233,10 +267,10 @@ fn refused_options(rt: HostRuntime) -> Result<(), Fail> {
         &["image", "journal", "--budget", "9", "--budget", "9"],
         &["a"],
         &["a", "b", "--plain", "--steps"],
-        // plain text and generated pairs are not built yet
-        &["a", "b", "--plain"],
-        &["image", "journal", "--plain"],
+        &["image", "journal", "--plain", "--plain"],
+        // generated pairs are not built yet
         &["--gen", "0"],
+        &["--gen", "0", "--plain"],
         &["--gen", "0", "--budget", "9"],
         &["--help"],
     ];

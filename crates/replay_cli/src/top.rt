@@ -11,6 +11,7 @@ ghost use Rattle.replay_cli.specs.Words.{are_accepted, request, image_name, jour
 ghost use Rattle.replay_cli.specs.Journal.{first_refused};
 ghost use Rattle.replay_cli.specs.Failures.{status_of};
 ghost use Rattle.replay_cli.specs.Headline.{loaded, rules_under, IsStartOf, WritesRunOf, WritesFrontOf};
+ghost use Rattle.replay_cli.specs.Beside.{IsBeside, TellsRunOf};
 ghost use Rattle.replay_cli.specs.Causes.{IsImage, IsJournal, ImageCause, JournalCause, Cause, Tells, Fails, IsSmooth};
 
 use crate::failure::{Failure, Status};
@@ -18,12 +19,13 @@ use crate::journal::read_accepted;
 use crate::request::read_request;
 use elf_image::EntryPoint;
 use journal_text::{Journal, JournalRefusal};
+use posix_model::Ending;
 use process_engine::{Process, WriteFault};
 use replay_io::{Files, LoadRefusal, Sink, Words};
 use rv_exec::Memory;
 use std::alloc::Global;
 use thread_base::NoMemory;
-use trace_text::Mode;
+use trace_text::{Mode, put_ending};
 
 /// The most bytes of an image or a journal.
 const MOST: usize = 16_777_216;
@@ -95,18 +97,27 @@ fn accept_journal<F: Files>(alloc: Global, name: &str, files: &mut F) -> Result<
     }
 }
 
+/// What the words, the image and the journal make together: the process at the image's start, and what is to be
+/// written of its run.
+#[derive(Drop)]
+pub(crate) struct Accepted {
+    pub(crate) process: Process,
+    mode: Mode,
+}
+
 /// Reads the words, loads and checks image and journal, and makes the process at the image's start; the first
 /// thing that fails ends it.
 pub(crate) fn accept<F: Files>(
     alloc: Global,
     words: &Words,
     files: &mut F,
-) -> Result<Process, Failure>
+) -> Result<Accepted, Failure>
     ensures words { OnOk result (are_accepted words.now ≡ true) }
     ensures journal { OnOk result (IsJournal (F.content files.old (journal_name words.now))) }
-    ensures start { IfOk result (λ p. IfSome (F.content files.old (image_name words.now)) (λ image. IsStartOf (request words.now).memory (loaded image) (moment_of p))) }
-    ensures at_rest { IfOk result (λ p. (position_of p).telling ≡ None) }
-    ensures rules { IfOk result (λ p. IfSome (F.content files.old (journal_name words.now)) (λ journal. p.rules ≡ rules_under (request words.now).settings (loaded journal))) }
+    ensures start { IfOk result (λ a. IfSome (F.content files.old (image_name words.now)) (λ image. IsStartOf (request words.now).memory (loaded image) (moment_of a.process))) }
+    ensures at_rest { IfOk result (λ a. (position_of a.process).telling ≡ None) }
+    ensures rules { IfOk result (λ a. IfSome (F.content files.old (journal_name words.now)) (λ journal. a.process.rules ≡ rules_under (request words.now).settings (loaded journal))) }
+    ensures mode { IfOk result (λ a. a.mode ≡ (request words.now).mode) }
     ensures cause { IfErr result (λ f. (a b : ℕ) → Cause words.now (F.content files.old) (F.faults files.old) (F.faults files.new) a b f) }
     ensures early { IfErr result (λ f. f ≢ Failure.Output) }
     ensures same { (n : List ℕ) → F.content files.new n ≡ F.content files.old n }
@@ -124,8 +135,34 @@ pub(crate) fn accept<F: Files>(
         Err(failure) => return Err(failure),
     };
     match Process::new(alloc, program.mem, program.entry, journal, request.settings) {
-        Ok(process) => Ok(process),
+        Ok(process) => Ok(Accepted {
+            process,
+            mode: request.mode,
+        }),
         Err(NoMemory) => Err(Failure::Memory),
+    }
+}
+
+/// A run that was written whole: how it ended, and what was written of it.
+#[derive(Clone, Copy)]
+struct Ran {
+    ending: Ending,
+    mode: Mode,
+}
+
+impl Ran {
+    /// Writes to the error sink what belongs beside the text: beside plain text the line of the ending.
+    #[tactic(auto, using(replay_io::proofs::WritingLemmas::writes_nothing))]
+    fn put_beside<E: Sink>(self, err: &mut E)
+        ensures beside { IsBeside self.mode self.ending (E.written err.old) (E.written err.new) (E.faults err.old) (E.faults err.new) }
+        ensures quiet { self.mode ≡ Mode.Trace → err.new ≡ err.old }
+    {
+        match self.mode {
+            Mode::Trace => {}
+            Mode::Plain => {
+                let _ = put_ending(&self.ending, err);
+            }
+        }
     }
 }
 
@@ -135,29 +172,33 @@ fn attempt<F: Files, O: Sink>(
     words: &Words,
     files: &mut F,
     out: &mut O,
-) -> Result<(), Failure>
+) -> Result<Ran, Failure>
     ensures words { OnOk result (are_accepted words.now ≡ true) }
     ensures journal { OnOk result (IsJournal (F.content files.old (journal_name words.now))) }
-    ensures ran { OnOk result (IfSome (F.content files.old (image_name words.now)) (λ image. IfSome (F.content files.old (journal_name words.now)) (λ journal. WritesRunOf (request words.now) (loaded image) (loaded journal) (O.written out.old) (O.written out.new)))) }
+    ensures mode { IfOk result (λ r. r.mode ≡ (request words.now).mode) }
+    ensures ran { IfOk result (λ r. IfSome (F.content files.old (image_name words.now)) (λ image. IfSome (F.content files.old (journal_name words.now)) (λ journal. WritesRunOf (request words.now) r.ending (loaded image) (loaded journal) (O.written out.old) (O.written out.new)))) }
     ensures kept { OnOk result (O.faults out.new ≡ O.faults out.old) }
     ensures cause { IfErr result (Cause words.now (F.content files.old) (F.faults files.old) (F.faults files.new) (O.faults out.old) (O.faults out.new)) }
     ensures nothing { IfErr result (λ f. f ≢ Failure.Output → out.new ≡ out.old) }
     ensures front { IfErr result (λ f. f ≡ Failure.Output → IfSome (F.content files.old (image_name words.now)) (λ image. IfSome (F.content files.old (journal_name words.now)) (λ journal. WritesFrontOf (request words.now) (loaded image) (loaded journal) (O.written out.old) (O.written out.new)))) }
     ensures same { (n : List ℕ) → F.content files.new n ≡ F.content files.old n }
 {
-    let process = match accept(alloc, words, files) {
-        Ok(process) => process,
+    let Accepted { process, mode } = match accept(alloc, words, files) {
+        Ok(accepted) => accepted,
         Err(failure) => return Err(failure),
     };
-    match process.run(out, Mode::Trace) {
-        Ok(_) => Ok(()),
+    match process.run(out, mode) {
+        Ok(done) => Ok(Ran {
+            ending: done.ending,
+            mode,
+        }),
         Err(WriteFault) => Err(Failure::Output),
     }
 }
 
-/// Replays the image under the journal that the words name: loads and checks both, and writes the trace of
-/// the run to `out`. Where it does not run to its end it writes one line to `err` and tells why by its
-/// status. Nothing but reading the words and loading may find no memory, and then nothing was written to `out`.
+/// Replays the image under the journal that the words name: loads and checks both, and writes the text of
+/// the run to `out`: its trace, or under the option `--plain` what its threads wrote, and then the line of the ending to
+/// `err`. Where it does not run to its end it writes one line to `err` and tells why by its status. Nothing but reading the words and loading may find no memory, and then nothing was written to `out`.
 pub fn replay<F: Files, O: Sink, E: Sink>(
     alloc: Global,
     words: &Words,
@@ -166,11 +207,12 @@ pub fn replay<F: Files, O: Sink, E: Sink>(
     err: &mut E,
 ) -> Status
     // Where it ran, what came to `out` is the text of one list of moves; that list is a run of the thread
-    // machine from the image's start under the journal, and the last line names its ending.
-    ensures ran { result ≡ Status.Ran → IfSome (F.content files.old (image_name words.now)) (λ image. IfSome (F.content files.old (journal_name words.now)) (λ journal. WritesRunOf (request words.now) (loaded image) (loaded journal) (O.written out.old) (O.written out.new))) }
+    // machine from the image's start under the journal, and the last line names its ending: of a trace in `out`, and
+    // beside plain text in `err`, where a trace leaves nothing.
+    ensures ran { result ≡ Status.Ran → IfSome (F.content files.old (image_name words.now)) (λ image. IfSome (F.content files.old (journal_name words.now)) (λ journal. TellsRunOf (request words.now) (loaded image) (loaded journal) (O.written out.old) (O.written out.new) (E.written err.old) (E.written err.new) (E.faults err.old) (E.faults err.new))) }
     ensures accepted { result ≡ Status.Ran → IsJournal (F.content files.old (journal_name words.now)) }
     ensures kept { result ≡ Status.Ran → O.faults out.new ≡ O.faults out.old }
-    ensures quiet { result ≡ Status.Ran → err.new ≡ err.old }
+    ensures quiet { result ≡ Status.Ran → (request words.now).mode ≡ Mode.Trace → err.new ≡ err.old }
 
     // Each other status has its cause, and its line on `err`.
     ensures fails { (result ≡ Status.Ran) ⊎ Fails (codes "fsu_replay") result (Cause words.now (F.content files.old) (F.faults files.old) (F.faults files.new) (O.faults out.old) (O.faults out.new)) (E.written err.old) (E.written err.new) (E.faults err.old) (E.faults err.new) }
@@ -189,7 +231,10 @@ pub fn replay<F: Files, O: Sink, E: Sink>(
     ensures complete { IsSmooth words.now (F.content files.old) (F.faults files.old) (F.faults files.new) (O.faults out.old) (O.faults out.new) → (result ≡ Status.Ran) ⊎ (result ≡ Status.NoMemory) }
 {
     match attempt(alloc, words, files, out) {
-        Ok(()) => Status::Ran,
+        Ok(ran) => {
+            ran.put_beside(err);
+            Status::Ran
+        }
         Err(failure) => {
             let _ = failure.put_line("fsu_replay", err);
             failure.status()
