@@ -23,7 +23,8 @@ use Rattle.posix_model.specs.declared.Move.TheVariants.{Instr, Arrive, Deliver}
 use Rattle.posix_model.proofs.EndLemmas.{some_arrive, first_is_due, nothing_arrives, none_due, one_ending}
 use Rattle.posix_model.proofs.JournalLemmas.{left_ascends}
 use Rattle.posix_model.proofs.OneRun.{same_state, same_lines}
-use Rattle.run_laws.specs.Course.{turn, first_of, unless_over, next_move, IsCourse, AreApart, IsSettledFor, ArriveSettled, written, move_plain, plain_text, Follows, OneCourse, AllAlike}
+use Rattle.trace_text.specs.Texts.{written, move_plain, plain_text}
+use Rattle.run_laws.specs.Course.{turn, first_of, unless_over, next_move, IsCourse, AreApart, IsSettledFor, ArriveSettled, Follows, OneCourse, AllAlike}
 use Rattle.run_laws.proofs.EntryLemmas.{NoTwo, NoTwoReached, no_two_due, no_two_reached, still_no_two, one_alone}
 
 -- ---- where an entry was presented changes neither the state nor what is told

@@ -4,7 +4,6 @@ use Rattle.std.specs.List.{AllZip}
 use Rattle.thread_base.specs.declared.Place.{Place}
 use Rattle.journal_text.specs.Valid.{IsJournal}
 use Rattle.journal_text.specs.declared.entry.Entry.{Entry}
-use Rattle.rv_exec.specs.Window.{bytes_at}
 use Rattle.posix_model.specs.State.{State}
 use Rattle.posix_model.specs.Scheduling.{chosen}
 use Rattle.posix_model.specs.Deliveries.{Delivery, next_delivery}
@@ -13,10 +12,10 @@ use Rattle.posix_model.specs.Journals.{entry_at}
 use Rattle.posix_model.specs.Runs.{Rules, Moment, due, make, moved, after, Ends}
 use Rattle.posix_model.specs.Laws.{IsWholeRun, IsSameMove, whole_text}
 use Rattle.posix_model.specs.Start.{start}
-use Rattle.posix_model.specs.declared.Report.{Report}
 use Rattle.posix_model.specs.declared.Move.{Move}
 use Rattle.posix_model.specs.declared.Move.TheVariants.{Instr, Arrive, Deliver}
 use Rattle.posix_model.specs.declared.Ending.{Ending}
+use Rattle.trace_text.specs.Texts.{plain_text}
 
 -- an instruction of the chosen thread, where the budget has room
 abbrev pub turn : Option ℕ → Bool → Option Move
@@ -66,19 +65,6 @@ pub record IsCalm (rules : Rules) (now : Moment) (course : List Move) : Type 0 w
   pub apart : AreApart rules.journal.entries
   pub one : length (due rules now) ≤ 1
   pub settled : ArriveSettled rules now course
-
--- the bytes that a write wrote; there are none where nothing was written
-abbrev pub written : Report → List ℕ → List ℕ
-written r memory = bytes_at memory r.out_buf r.out_len
-
--- the bytes that one move wrote
-abbrev pub move_plain : Rules → Moment → Move → List ℕ
-move_plain rules now move = written (make rules now.state move).report (moved rules now move).state.memory
-
--- the plain text of a list of moves: the bytes that its writes wrote
-abbrev pub plain_text : Rules → Moment → List Move → List ℕ
-plain_text rules now [] = []
-plain_text rules now (move ∷ moves) = move_plain rules now move ++ plain_text rules (moved rules now move) moves
 
 -- a run is the course but for where its entries were presented: it has the moves, the ending and both texts of the course
 pub record Follows (rules : Rules) (now : Moment) (course moves : List Move) (ending : Ending) : Type 0 where

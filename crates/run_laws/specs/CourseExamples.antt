@@ -10,7 +10,8 @@ use Rattle.posix_model.specs.Runs.{Rules, Moment, after}
 use Rattle.posix_model.specs.declared.Ending.TheVariants.{Killed}
 use Rattle.posix_model.specs.declared.Report.{Report}
 use Rattle.posix_model.specs.declared.Move.TheVariants.{Instr, Arrive, Deliver}
-use Rattle.run_laws.specs.Course.{next_move, IsCourse, AreApart, IsSettledFor, IsCalm, written}
+use Rattle.trace_text.specs.Texts.{written}
+use Rattle.run_laws.specs.Course.{next_move, IsCourse, AreApart, IsSettledFor, IsCalm}
 
 -- signal 10 after 5 instructions, and a tick after 7
 abbrev pub two_entries : Rules
