@@ -1,23 +1,28 @@
 -- A signal that comes, and each call of signals, keeps a good state good.
-use Rattle.std.proofs.Common.{◌≡◌, ◌∙◌, refl, sym, ℕ, ◌+◌, Bool, true, false, not, [], ◌∷◌, Some}
-use Rattle.std.specs.Prelude.{◌==◌, if◌then◌else◌, nat_lt}
+use Rattle.std.proofs.Common.{◌≡◌, ◌∙◌, refl, sym, arith, ℕ, ◌+◌, ◌<◌, Bool, true, false, not, [], ◌∷◌, Option, Some, None}
+use Rattle.std.specs.Prelude.{◌^◌, ◌==◌, if◌then◌else◌, nat_lt}
+use Rattle.std.proofs.lemmas.Bool.{eqb-false}
 use Rattle.thread_base.specs.Actions.{ignores}
 use Rattle.thread_base.specs.Maps.{put}
 use Rattle.thread_base.specs.Numbers.{can_block, set_of}
+use Rattle.thread_base.specs.Orders.{without}
 use Rattle.thread_base.specs.declared.Errno.TheVariants.{ESRCH, EINVAL}
 use Rattle.thread_base.specs.declared.action.Action.{Action}
-use Rattle.posix_model.specs.State.{State, Thread, is_live}
+use Rattle.posix_model.specs.State.{State, Thread, Standing, Waits, is_ready, is_live}
 use Rattle.posix_model.specs.Changes.{Outcome, begun, set_thread}
-use Rattle.posix_model.specs.Deliveries.{pend, killed_by, left_of}
+use Rattle.posix_model.specs.Deliveries.{pend, set_pending, killed_by, left_of}
 use Rattle.posix_model.specs.Arrivals.{dropped, come}
-use Rattle.posix_model.specs.Replies.{values}
-use Rattle.posix_model.specs.SignalCalls.{forgotten, with_action, number_of_action, action_of, is_action, sigaction, mask_by, sigmask, sent, can_send, kill_thread, kill_process, kill_calls}
-use Rattle.posix_model.specs.Good.{IsGood}
+use Rattle.posix_model.specs.Replies.{values, blocked}
+use Rattle.posix_model.specs.SignalCalls.{forgotten, with_action, number_of_action, action_of, is_action, sigaction, mask_by, sigmask, pending_set, sigpending, lowest_pending, accepted_from, accept_or_wait, sigwait, sent, can_send, kill_thread, kill_process, kill_calls}
+use Rattle.posix_model.specs.Good.{standings, IsGood}
 use Rattle.posix_model.specs.declared.Ending.TheVariants.{Killed}
-use Rattle.posix_model.proofs.StandingLemmas.{never, at_other}
+use Rattle.posix_model.specs.declared.Wait.TheVariants.{Signal as OfSignal}
+use Rattle.posix_model.proofs.StandingLemmas.{never, at_other, ready_live, ready_wants, ready_waits_on, once, for_none, for_some}
 use Rattle.posix_model.proofs.ListLemmas.{each_put}
-use Rattle.posix_model.proofs.GoodLemmas.{good_alike, good_set, good_pending, good_reply}
-use Rattle.posix_model.proofs.GoodReplies.{IsGoodRow, AreGoodRows, good_refusing}
+use Rattle.posix_model.proofs.MutexLemmas.{mutexes_stay}
+use Rattle.posix_model.proofs.ConditionLemmas.{conditions_apart}
+use Rattle.posix_model.proofs.GoodLemmas.{good_alike, good_set, good_pending, good_reply, good_asleep, ready_without}
+use Rattle.posix_model.proofs.GoodReplies.{GoodCall, IsGoodRow, AreGoodRows, good_refusing}
 use Rattle.posix_model.proofs.GoodDeliveries.{good_ending}
 
 -- a signal comes for a thread or for the process, and pends only where it is not ignored
@@ -73,6 +78,35 @@ good_sigmask s t c good ready =
     good_refusing s t ((nat_lt 2 c.a0, EINVAL) ∷ []) (values (begun (set_thread s t thread)) t 0 (s.threads t).mask) good
     (λ may. good_reply (set_thread s t thread) t 0 (s.threads t).mask (good_set s t thread refl refl good))
 
+good_sigpending : IsGoodRow sigpending
+good_sigpending s t c good ready = good_reply s t 0 (pending_set s t) good
+
+-- a ready thread waits for a signal of a set that is not empty
+good_awaiting : (s : State) (t set : ℕ) → IsGood s → is_ready (standings s t) ≡ true → 0 < set → GoodCall (blocked s t (OfSignal set))
+good_awaiting s t set good ready some =
+    let st : Standing = Waits (OfSignal set) in
+    good_asleep s t (OfSignal set) (without t s.ready) s.mutexes s.conditions good (good.within t (ready_live (standings s t) ready).0) (λ u. refl)
+    (ready_without (standings s) t st s.ready refl good.ready)
+    (mutexes_stay (standings s) t st s.mutexes good.mutexes (λ m. sym (ready_wants m (standings s t) ready)) (λ m h. refl))
+    (conditions_apart (standings s) s.mutexes t st s.conditions (λ c. refl) (λ c. ready_waits_on c (standings s t) ready) good.conditions)
+    (record {
+      count = once;
+      later = for_none None (λ until. s.now < until) refl;
+      soon = for_none None (λ until. until < s.now + 2 ^ 32) refl;
+      some = for_some set (λ set. 0 < set) some;
+    })
+
+good_accept_or_wait : (s : State) (t set : ℕ) (o : Option ℕ) → IsGood s → is_ready (standings s t) ≡ true → 0 < set → GoodCall (accept_or_wait s t set o)
+good_accept_or_wait s t set None good ready some = good_awaiting s t set good ready some
+good_accept_or_wait s t set (Some sig) good ready some =
+    let place = accepted_from s t sig in good_reply (set_pending s place sig 0) t 0 sig (good_pending s place sig 0 good (λ ignored. refl))
+
+good_sigwait : IsGoodRow sigwait
+good_sigwait s t c good ready =
+    let set = set_of c.a0 in
+    good_refusing s t ((set == 0, EINVAL) ∷ []) (accept_or_wait s t set (lowest_pending s t set)) good
+    (λ may. let ne = eqb-false set 0 may.0 in good_accept_or_wait s t set (lowest_pending s t set) good ready (omega (arith, ne)))
+
 good_sent : (s : State) (place sig : ℕ) → IsGood s → IsGood (sent s place sig).state
 good_sent s place sig good = elim (sig == 0) as (λ b. IsGood (if b then begun s else come (begun s) place sig 1).state) [ true ↦ good | false ↦ good_come (begun s) place sig 1 good ]
 
@@ -87,4 +121,4 @@ good_kill_process s t c good ready =
     (λ may. good_reply (sent s 0 c.a0).state t 0 0 (good_sent s 0 c.a0 good))
 
 pub good_kill_calls : AreGoodRows kill_calls
-good_kill_calls = (good_sigaction, (good_sigmask, (good_kill_thread, (good_kill_process, tt))))
+good_kill_calls = (good_sigaction, (good_sigmask, (good_sigpending, (good_sigwait, (good_kill_thread, (good_kill_process, tt))))))

@@ -1,5 +1,5 @@
 -- What pends after a signal came, and after a call: one more at most.
-use Rattle.std.proofs.Common.{◌≡◌, refl, ℕ, Bool, true, false, not, List, [], ◌∷◌, ◌++◌}
+use Rattle.std.proofs.Common.{◌≡◌, refl, ℕ, Bool, true, false, not, List, [], ◌∷◌, ◌++◌, Option, Some, None}
 use Rattle.std.specs.Prelude.{◌==◌, ◌||◌, if◌then◌else◌, nat_lt}
 use Rattle.std.specs.List.{AllByRecursion}
 use Rattle.std.proofs.lemmas.Bool.{not-false}
@@ -11,16 +11,16 @@ use Rattle.thread_base.specs.declared.Errno.TheVariants.{ESRCH, EINVAL}
 use Rattle.thread_base.specs.declared.action.Action.{Action}
 use Rattle.posix_model.specs.State.{State, is_live}
 use Rattle.posix_model.specs.Changes.{Outcome, begun, set_thread}
-use Rattle.posix_model.specs.Deliveries.{pend, killed_by, left_of}
+use Rattle.posix_model.specs.Deliveries.{pend, set_pending, killed_by, left_of}
 use Rattle.posix_model.specs.Arrivals.{dropped, come}
 use Rattle.posix_model.specs.Replies.{Called, Row, Entry, values, refused, refusing, row_of}
 use Rattle.posix_model.specs.Calls.{write, signal_calls, thread_calls, sync_calls, call_row}
-use Rattle.posix_model.specs.SignalCalls.{forgotten, with_action, number_of_action, action_of, is_action, sigaction, mask_by, sigmask, sent, can_send, kill_thread, kill_process}
+use Rattle.posix_model.specs.SignalCalls.{forgotten, with_action, number_of_action, action_of, is_action, sigaction, mask_by, sigmask, sigpending, lowest_pending, accepted_from, accept_or_wait, sigwait, sent, can_send, kill_thread, kill_process}
 use Rattle.posix_model.specs.ClockCalls.{sleep, set_alarm, clock}
 use Rattle.posix_model.specs.declared.Arguments.{Arguments}
 use Rattle.posix_model.proofs.GoodReplies.{NoneHolds}
 use Rattle.posix_model.proofs.PendingLemmas.{either, IsCalm, calm_write, calm_sleep, calm_set_alarm, calm_clock, calm_others}
-use Rattle.posix_model.proofs.PendingCounts.{Adds, adds_stays, adds_before, adds_pend, adds_forgotten}
+use Rattle.posix_model.proofs.PendingCounts.{Adds, adds_stays, adds_before, adds_pend, adds_forgotten, adds_taken}
 
 -- a signal in scope that comes adds its count at most
 pub adds_come : (g : Outcome) (place sig count : ℕ) → IsInScope sig → Adds g.state (come g place sig count).state count 0
@@ -82,6 +82,17 @@ adds_sigmask s t c =
     adds_refusing s t ((nat_lt 2 c.a0, EINVAL) ∷ []) (values masked t 0 (s.threads t).mask)
     (λ may. adds_values s masked t 0 (s.threads t).mask (adds_stays s masked.state 1 0 refl))
 
+adds_accept_or_wait : (s : State) (t set : ℕ) (o : Option ℕ) → CallAdds s (accept_or_wait s t set o)
+adds_accept_or_wait s t set None = adds_stays s (accept_or_wait s t set None).outcome.state 1 0 refl
+adds_accept_or_wait s t set (Some sig) =
+    let place = accepted_from s t sig in
+    adds_before s (set_pending s place sig 0) (accept_or_wait s t set (Some sig)).outcome.state 1 0 (adds_taken s place sig 1 0) refl
+
+adds_sigwait : IsAdding sigwait
+adds_sigwait s t c =
+    let set = set_of c.a0 in
+    adds_refusing s t ((set == 0, EINVAL) ∷ []) (accept_or_wait s t set (lowest_pending s t set)) (λ may. adds_accept_or_wait s t set (lowest_pending s t set))
+
 -- a signal that can be sent is in scope, but for the signal 0
 adds_sent : (s : State) (place sig : ℕ) → can_send sig ≡ true → Adds s (sent s place sig).state 1 0
 adds_sent s place sig may = by (sig == 0) may
@@ -108,8 +119,14 @@ adds_signal_calls = (
     (
       adds_sigmask,
       (
-        adds_kill_thread,
-        (adds_kill_process, (calm_adds sleep calm_sleep, (calm_adds set_alarm calm_set_alarm, (calm_adds clock calm_clock, tt)))),
+        calm_adds sigpending (λ s t c. refl),
+        (
+          adds_sigwait,
+          (
+            adds_kill_thread,
+            (adds_kill_process, (calm_adds sleep calm_sleep, (calm_adds set_alarm calm_set_alarm, (calm_adds clock calm_clock, tt)))),
+          ),
+        ),
       ),
     ),
   ),

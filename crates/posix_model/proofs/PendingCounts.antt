@@ -206,13 +206,19 @@ adds_forgotten s r sig more ticks same times =
           (λ place. each_put (λ n c. 0 < c → IsInScope n) (s.pending place) sig 0 (λ h. absurd (omega (arith, h))) (λ n ne. scope place n));
     }
 
+pub scope_taken : (s : State) (place sig : ℕ) → PendsInScope s → PendsInScope (set_pending s place sig 0)
+scope_taken s place sig scope =
+    each_put (λ v (row : ℕ → ℕ). (n : ℕ) → 0 < row n → IsInScope n) s.pending place (put (s.pending place) sig 0)
+    (each_put (λ n c. 0 < c → IsInScope n) (s.pending place) sig 0 (λ h. absurd (omega (arith, h))) (λ n ne. scope place n)) (λ v ne. scope v)
+
+-- nothing of a signal pends in a place any more
+pub adds_taken : (s : State) (place sig more ticks : ℕ) → Adds s (set_pending s place sig 0) more ticks
+adds_taken s place sig more ticks =
+    let less = sum_more s.pending place (put (s.pending place) sig 0) 0 (row_more (s.pending place) sig 0 0 (omega arith)) in
+    record { sum = omega (arith, less); time = omega arith; scope = scope_taken s place sig }
+
 -- a signal is taken with its whole count
 pub sum_taken : (s : State) (place sig : ℕ) → 1 ≤ sig → sig ≤ 31 → (place ≡ 0) ⊎ ((1 ≤ place) × (place ≤ 64))
     → sum_of (set_pending s place sig 0).pending + s.pending place sig ≤ sum_of s.pending
 sum_taken s place sig low high where_it_is =
     sum_fewer s.pending place (put (s.pending place) sig 0) (s.pending place sig) (row_taken (s.pending place) sig low high) where_it_is
-
-pub scope_taken : (s : State) (place sig : ℕ) → PendsInScope s → PendsInScope (set_pending s place sig 0)
-scope_taken s place sig scope =
-    each_put (λ v (row : ℕ → ℕ). (n : ℕ) → 0 < row n → IsInScope n) s.pending place (put (s.pending place) sig 0)
-    (each_put (λ n c. 0 < c → IsInScope n) (s.pending place) sig 0 (λ h. absurd (omega (arith, h))) (λ n ne. scope place n)) (λ v ne. scope v)

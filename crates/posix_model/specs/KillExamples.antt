@@ -1,7 +1,7 @@
 -- Small cases of the calls of signals, which the checker computes.
 use Rattle.std.specs.Prelude.{ℕ, ◌≡◌, [], ◌∷◌, slice_index, Some, None}
 use Rattle.thread_base.specs.declared.action.Action.TheVariants.{Default, Ignore, Handler}
-use Rattle.posix_model.specs.State.{State, Ready}
+use Rattle.posix_model.specs.State.{State, Ready, Waits}
 use Rattle.posix_model.specs.Changes.{Outcome, set_thread}
 use Rattle.posix_model.specs.Calls.{call, call_row}
 use Rattle.posix_model.specs.Deliveries.{Gives, next_delivery, set_pending}
@@ -10,7 +10,8 @@ use Rattle.posix_model.specs.Examples.{six_threads, thread_with, with_arguments,
 use Rattle.posix_model.specs.SignalExamples.{acting}
 use Rattle.posix_model.specs.declared.Ending.TheVariants.{Killed}
 use Rattle.posix_model.specs.declared.Head.TheVariants.{Call}
-use Rattle.posix_model.specs.declared.Reply.TheVariants.{Values}
+use Rattle.posix_model.specs.declared.Reply.TheVariants.{Values, Block}
+use Rattle.posix_model.specs.declared.Wait.TheVariants.{Signal as OfSignal}
 
 -- a call of thread 1 with three arguments
 abbrev pub called : State → ℕ → ℕ → ℕ → ℕ → Called
@@ -67,6 +68,39 @@ OtherActions =
     × (reply_of handled ≡ Values 0 65796) × (handled.outcome.state.actions 10 ≡ Handler 65800 5120) × (drops_of handled 10 ≡ 0)
     × (pending_after handled 0 10 ≡ 2) × (reply_of (called six_threads 286 10 1 0) ≡ Values 0 0)
     × (reply_of (called (acting six_threads 10 Ignore) 286 10 65796 0) ≡ Values 0 1)
+
+-- the set of what pends on the caller and on the process, but not on others, which changes nothing; KILL is in no set
+abbrev pub PendingSets : Type 0
+PendingSets =
+    let shared : Called = called pending_apart 288 0 0 0 in
+    let both : Called = call_row pending_apart 2 288 (with_arguments 0 0 0 0) in
+    (reply_of shared ≡ Values 0 1024) × (pending_after shared 0 10 ≡ 2) × (shared.outcome.report.took ≡ 0)
+    × (reply_of both ≡ Values 0 5120) × (pending_after both 2 10 ≡ 1) × (pending_after both 2 12 ≡ 1)
+    × (reply_of (called (set_pending pending_apart 1 9 1) 288 0 0 0) ≡ Values 0 1024) × (reply_of (called six_threads 288 0 0 0) ≡ Values 0 0)
+
+-- signal 10 pends twice on the process, signal 12 three times on thread 1 and four times on the process
+abbrev pub pending_twice : State
+pending_twice = set_pending (set_pending (set_pending six_threads 0 10 2) 1 12 3) 0 12 4
+
+-- the lowest signal of a set that pends is accepted with its whole count, a thread's own before the process's, and is told
+abbrev pub Accepts : Type 0
+Accepts =
+    let own : Called = called pending_twice 289 36864 0 0 in
+    let shared : Called = called own.outcome.state 289 36864 0 0 in
+    let lowest : Called = called pending_twice 289 37888 0 0 in
+    (reply_of own ≡ Values 0 12) × (own.outcome.report.took ≡ 1) × (own.outcome.report.took_sig ≡ 12) × (own.outcome.report.took_count ≡ 3)
+    × (pending_after own 1 12 ≡ 0) × (pending_after own 0 12 ≡ 4) × ((own.outcome.state.threads 1).registers.pc ≡ 65624)
+    × (reply_of shared ≡ Values 0 12) × (shared.outcome.report.took_count ≡ 4) × (pending_after shared 0 12 ≡ 0) × (pending_after shared 0 10 ≡ 2)
+    × (reply_of lowest ≡ Values 0 10) × (lowest.outcome.report.took_count ≡ 2) × (pending_after lowest 0 10 ≡ 0) × (pending_after lowest 1 12 ≡ 3)
+
+-- where no signal of the set pends the caller waits, for those that can be blocked; a set without one of them is refused
+abbrev pub Awaits : Type 0
+Awaits =
+    let waits : Called = called pending_twice 289 33280 0 0 in
+    (reply_of waits ≡ Block) × ((waits.outcome.state.threads 1).standing ≡ Waits (OfSignal 32768)) × ((waits.outcome.state.threads 1).registers.pc ≡ 65620)
+    × (waits.outcome.state.ready ≡ 2 ∷ 5 ∷ 6 ∷ []) × (waits.outcome.report.took ≡ 0) × (pending_after waits 1 12 ≡ 3)
+    × (reply_of (called pending_twice 289 0 0 0) ≡ Values 22 0) × (reply_of (called pending_twice 289 512 0 0) ≡ Values 22 0)
+    × (reply_of (called pending_twice 289 8126465 0 0) ≡ Values 22 0)
 
 -- thread 1 blocks the signals 10 and 12
 abbrev pub blocking : State

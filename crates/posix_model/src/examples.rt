@@ -237,6 +237,21 @@ pub fn masks()
     ensures { kills.Masks }
 {}
 
+/// The set of what pends on the caller and on the process.
+pub fn pending_sets()
+    ensures { kills.PendingSets }
+{}
+
+/// The lowest signal that pends is accepted with its whole count, the caller's own before the process's.
+pub fn accepts()
+    ensures { kills.Accepts }
+{}
+
+/// A thread waits for the signals of a set where none of them pends; an empty set is refused.
+pub fn awaits()
+    ensures { kills.Awaits }
+{}
+
 /// A signal pends on the thread to which it is sent, or on the process.
 pub fn sends()
     ensures { kills.Sends }
