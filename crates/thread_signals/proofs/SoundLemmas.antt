@@ -56,6 +56,10 @@ first_shown mask e = λ i. record {
   actions = actions_blank i;
 }
 
+left : (a b : Bool) → (a && b) ≡ true → a ≡ true
+left true b e = refl
+left false b e = e
+
 module _ (table : Table) (sets : List ℕ) (all : ℕ) (sound : AreSound table sets all) where
   -- what pends on a thread or on the process
   pub pending_both : (i t sig : ℕ) → i ≡ t → has_signal (bit_or (get_or sets i 0) (get_or sets 0 0)) sig ≡ is_pending (counts_of table.counts) t sig
@@ -68,10 +72,25 @@ module _ (table : Table) (sets : List ℕ) (all : ℕ) (sound : AreSound table s
   pub own_scope : (i taken sig : ℕ) → has_signal (bit_and (get_or sets i 0) taken) sig ≡ true → IsInScope sig
   own_scope i taken sig h =
       sound.scope i sig (sym (sound.agree i sig) ∙ left (has_signal (get_or sets i 0) sig) (has_signal taken sig) (sym (has_and (get_or sets i 0) taken sig) ∙ h))
+
+  -- what pends on a thread or on the process is in scope, also of the signals of a set
+  pub both_scope : (i set sig : ℕ) → has_signal (bit_and (bit_or (get_or sets i 0) (get_or sets 0 0)) set) sig ≡ true → IsInScope sig
+  both_scope i set sig h =
+      by (nat_lt 0 (counts_of table.counts i sig)) (nat_lt 0 (counts_of table.counts 0 sig)) (sound.scope i sig) (sound.scope 0 sig)
+      (sym (pending_both i i sig refl)
+      ∙ left (has_signal (bit_or (get_or sets i 0) (get_or sets 0 0)) sig) (has_signal set sig)
+      (sym (has_and (bit_or (get_or sets i 0) (get_or sets 0 0)) set sig) ∙ h))
     where
-      left : (a b : Bool) → (a && b) ≡ true → a ≡ true
-      left true b e = refl
-      left false b e = e
+      by : (a b : Bool) → (a ≡ true → IsInScope sig) → (b ≡ true → IsInScope sig) → (a || b) ≡ true → IsInScope sig
+      by true b own shared e = own refl
+      by false b own shared e = shared e
+
+  -- the lowest signal of a set that pends on a thread or on the process
+  pub both_found : (i t word set : ℕ) → i ≡ t → word ≡ set
+      → find (has_signal (bit_and (bit_or (get_or sets i 0) (get_or sets 0 0)) word)) signals ≡ find (λ sig. is_pending (counts_of table.counts) t sig && has_signal set sig) signals
+  both_found i t word set e same =
+      ap (λ (test : ℕ → Bool). find test signals)
+      (λ j sig. (has_and (bit_or (get_or sets i 0) (get_or sets 0 0)) word sig ∙ (λ l. pending_both i t sig e l && has_signal (same l) sig)) j)
 
   -- the lowest signal of those that pend on a thread and that it takes
   pub own_found : (i t taken : ℕ) (takes : ℕ → Bool) → i ≡ t → ((sig : ℕ) → sig < 32 → has_signal taken sig ≡ takes sig)

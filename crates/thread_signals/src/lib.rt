@@ -8,7 +8,7 @@ ghost use Rattle.thread_base.specs.Maps.{put, numbered};
 ghost use Rattle.thread_base.specs.Numbers.{IsTid, has_signal, can_block};
 ghost use Rattle.thread_base.specs.Priority.{tids, first_greatest};
 ghost use Rattle.thread_signals.specs.Counts.{place_of, is_pending, put_count, without_signal, all_of, total};
-ghost use Rattle.thread_base.specs.Deliveries.{waits_for, takes, waiters, own_signal, own_delivery, pending_recipient, process_delivery, is_greater, IsDue, IsSettled};
+ghost use Rattle.thread_base.specs.Deliveries.{signals, waits_for, takes, waiters, own_signal, own_delivery, pending_recipient, process_delivery, is_greater, IsDue, IsSettled};
 ghost use Rattle.thread_signals.specs.SignalState.{state_of, first_state, with_count, with_action, dropped_by, free_in, recipient_in, next_in};
 
 #[cfg(test)]
@@ -159,6 +159,13 @@ impl Signals {
         ensures { (sig : ℕ) → has_signal result sig ≡ (is_pending (state_of self.now).counts t sig && can_block sig) }
     {
         SigSet::of(self.pending[t.number() as usize] | self.pending[0])
+    }
+
+    /// The lowest signal of a set that pends on a thread or on the process.
+    pub fn lowest_pending(&self, t: Tid, set: SigSet) -> Option<Sig>
+        ensures { result ≡ find (λ sig. is_pending (state_of self.now).counts t sig && has_signal set sig) signals }
+    {
+        lowest((self.pending[t.number() as usize] | self.pending[0]) & set.word())
     }
 
     /// How often a signal pends on a thread, or on the process.

@@ -16,6 +16,10 @@ fn counts_add_up_and_go_whole(rt: HostRuntime) {
     assert_eq!(rt; signals.count(Some(t), Sig::of(10)), 5);
     assert_eq!(rt; signals.pending(t), SigSet::of(1 << 10 | 1 << 31));
     assert_eq!(rt; signals.pending(other), SigSet::of(1 << 31));
+    let lowest = |t: Tid, set: u32| signals.lowest_pending(t, SigSet::of(set)).map(Sig::number);
+    assert_eq!(rt; lowest(t, 1 << 10 | 1 << 31), Some(10));
+    assert_eq!(rt; lowest(other, 1 << 10 | 1 << 31), Some(31));
+    assert_eq!(rt; lowest(other, 1 << 10), None);
     assert_eq!(rt; signals.take(Some(t), Sig::of(10)), 5);
     assert_eq!(rt; signals.take(Some(t), Sig::of(10)), 0);
     assert_eq!(rt; signals.pending(t), SigSet::of(1 << 31));
