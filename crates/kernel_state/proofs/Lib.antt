@@ -19,3 +19,4 @@ pub mod NumberLemmas
 pub mod OutsideLemmas
 pub mod PresentedLemmas
 pub mod SoundLemmas
+pub mod SetLemmas

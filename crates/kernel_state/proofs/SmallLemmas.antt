@@ -33,7 +33,7 @@ use Rattle.kernel_state.specs.declared.change.ConditionChange.TheVariants.{Make 
 use Rattle.kernel_state.specs.declared.change.MutexChange.{MutexChange}
 use Rattle.kernel_state.specs.declared.change.MutexChange.TheVariants.{Make as MakeMutex, Destroy as DestroyMutex, Hold, AddWaiter, DropWaiter}
 use Rattle.kernel_state.specs.declared.change.SignalChange.{SignalChange}
-use Rattle.kernel_state.specs.declared.change.SignalChange.TheVariants.{Pend, Take, Drop as DropAll, Lose, Act}
+use Rattle.kernel_state.specs.declared.change.SignalChange.TheVariants.{Pend, Take, Accept, Drop as DropAll, Lose, Act}
 use Rattle.kernel_state.specs.declared.change.ThreadChange.{ThreadChange}
 use Rattle.kernel_state.specs.declared.change.ThreadChange.TheVariants.{Reply, ToEnd, Create, StartExit, Await, Answer, Resume, Block, Handle, GoBack, Schedule, Charge, Detach, Free, End}
 use Rattle.kernel_state.proofs.ViewLemmas.{gone_calmly}
@@ -225,6 +225,7 @@ small_none s = small_thread s s 0 (λ u ne. refl) refl refl refl refl refl (stil
 small_of_signal : (change : SignalChange) (sig : ℕ) (g : Outcome) → IsSmall g.state (signal_change_by change sig g).state
 small_of_signal (Pend place count) sig g = small_count g.state (place_of place) sig _
 small_of_signal (Take place) sig g = small_count g.state (place_of place) sig 0
+small_of_signal (Accept place) sig g = small_count g.state (place_of place) sig 0
 small_of_signal (DropAll place) sig g = small_count g.state (place_of place) sig 0
 small_of_signal (Lose count) sig g = small_none g.state
 small_of_signal (Act action) sig g =

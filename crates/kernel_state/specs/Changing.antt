@@ -13,7 +13,7 @@ use Rattle.posix_model.specs.Conditions.{set_condition}
 use Rattle.posix_model.specs.Leaving.{exit_with, remains, ended}
 use Rattle.posix_model.specs.Deliveries.{set_pending, pend, killed_by, in_handler, handler_return, most_frames}
 use Rattle.posix_model.specs.Arrivals.{dropped}
-use Rattle.posix_model.specs.SignalCalls.{with_action}
+use Rattle.posix_model.specs.SignalCalls.{with_action, accepted}
 use Rattle.posix_model.specs.Weights.{pending_in_all}
 use Rattle.thread_signals.specs.Counts.{place_of}
 use Rattle.kernel_state.specs.Records.{left}
@@ -27,7 +27,7 @@ use Rattle.kernel_state.specs.declared.change.ConditionChange.TheVariants.{Make 
 use Rattle.kernel_state.specs.declared.change.MutexChange.{MutexChange}
 use Rattle.kernel_state.specs.declared.change.MutexChange.TheVariants.{Make as MakeMutex, Destroy as DestroyMutex, Hold, AddWaiter, DropWaiter}
 use Rattle.kernel_state.specs.declared.change.SignalChange.{SignalChange}
-use Rattle.kernel_state.specs.declared.change.SignalChange.TheVariants.{Pend, Take, Drop as DropAll, Lose, Act}
+use Rattle.kernel_state.specs.declared.change.SignalChange.TheVariants.{Pend, Take, Accept, Drop as DropAll, Lose, Act}
 use Rattle.kernel_state.specs.declared.change.ThreadChange.{ThreadChange}
 use Rattle.kernel_state.specs.declared.change.ThreadChange.TheVariants.{Reply, ToEnd, Create, StartExit, Await, Answer, Resume, Block, Handle, GoBack, Schedule, Charge, Detach, Free, End}
 
@@ -96,6 +96,7 @@ condition_change_by (Leave t) condition = without_waiter t condition
 abbrev pub signal_change_by : SignalChange → ℕ → Outcome → Outcome
 signal_change_by (Pend place count) signal g = record g { state = pend g.state (place_of place) signal count }
 signal_change_by (Take place) signal g = record g { state = set_pending g.state (place_of place) signal 0 }
+signal_change_by (Accept place) signal g = accepted g (place_of place) signal
 signal_change_by (DropAll place) signal g = dropped (record g { state = set_pending g.state (place_of place) signal 0 }) signal (g.state.pending (place_of place) signal)
 signal_change_by (Lose count) signal g = dropped g signal count
 signal_change_by (Act action) signal g = with_action g signal action
@@ -176,6 +177,7 @@ HasDroppedNone signal g = slice_index g.report.drops signal ≡ 0
 abbrev pub CanSignal : SignalChange → ℕ → Outcome → Type 0
 CanSignal (Pend place count) signal g = pending_in_all g.state + count < 2 ^ 63
 CanSignal (Take place) signal g = Unit {0}
+CanSignal (Accept place) signal g = Unit {0}
 CanSignal (DropAll place) signal g = HasDroppedNone signal g
 CanSignal (Lose count) signal g = HasDroppedNone signal g
 CanSignal (Act action) signal g = HasDroppedNone signal g

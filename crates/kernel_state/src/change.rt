@@ -86,6 +86,8 @@ pub enum SignalChange {
     Pend { place: Option<Tid>, count: u64 },
     /// None pends there: the signal is taken with its whole count.
     Take { place: Option<Tid> },
+    /// None pends there: the signal is accepted with its whole count, which is told beside the main line.
+    Accept { place: Option<Tid> },
     /// None pends there: what pended is dropped.
     Drop { place: Option<Tid> },
     /// So many that came are dropped.

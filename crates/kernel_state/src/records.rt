@@ -1,13 +1,14 @@
-ghost use Rattle.std.specs.Prelude.{◌≡◌, ◌<◌, ◌≤◌, ◌+◌, ◌-◌, ◌^◌, ℕ, List, [], true, false, Some, None, length, is_some, find, map, nat_lt, IsNone, IfOk, IfSome, if◌then◌else◌};
+ghost use Rattle.std.specs.Prelude.{◌≡◌, ◌<◌, ◌≤◌, ◌+◌, ◌-◌, ◌^◌, ◌&&◌, ℕ, List, [], true, false, Some, None, length, is_some, find, map, nat_lt, IsNone, IfOk, IfSome, if◌then◌else◌};
 ghost use Rattle.std.specs.List.{range_with_len};
 ghost use Rattle.thread_base.specs.Actions.{ignores};
 ghost use Rattle.thread_base.specs.Maps.{put, numbered};
-ghost use Rattle.thread_base.specs.Numbers.{IsTid};
+ghost use Rattle.thread_base.specs.Deliveries.{signals};
+ghost use Rattle.thread_base.specs.Numbers.{IsTid, has_signal, can_block};
 ghost use Rattle.rv_exec.specs.Meaning.{effect};
 ghost use Rattle.rv_exec.specs.Outcome.{HasEffect};
 ghost use Rattle.context_frames.specs.Contexts.{saved_of, stack_of};
 ghost use Rattle.thread_table.specs.Rows.{free_number as free_row, rows as rows_of, live_count};
-ghost use Rattle.thread_signals.specs.Counts.{place_of, put_count, without_signal, all_of, total};
+ghost use Rattle.thread_signals.specs.Counts.{place_of, is_pending, put_count, without_signal, all_of, total};
 ghost use Rattle.thread_signals.specs.SignalState.{state_of};
 ghost use Rattle.time_queue.specs.Deadlines.{deadlines as deadlines_of};
 ghost use Rattle.posix_model.specs.State.{Frame as MachineFrame, no_thread, is_of_handler, wait_of, target, set_at, deadline_by, none_pending, default_actions};
@@ -430,6 +431,22 @@ impl Records {
         ensures none { IsNone result → (sig : ℕ) → from ≤ sig → pending_in self.now (place_of t) sig ≡ 0 }
     {
         self.signals.next_pending(t, from)
+    }
+
+    /// The signals that pend on a thread or on the process, but for KILL, which no set has.
+    #[tactic(auto, unfolding(crate::specs::Records::pending_in))]
+    pub fn pending_set(&self, t: Tid) -> SigSet
+        ensures { (sig : ℕ) → has_signal result sig ≡ (is_pending (pending_in self.now) t sig && can_block sig) }
+    {
+        self.signals.pending(t)
+    }
+
+    /// The lowest signal of a set that pends on a thread or on the process; None exactly where none of the set pends there.
+    #[tactic(auto, unfolding(crate::specs::Records::pending_in))]
+    pub fn lowest_pending(&self, t: Tid, set: SigSet) -> Option<Sig>
+        ensures { result ≡ find (λ sig. is_pending (pending_in self.now) t sig && has_signal set sig) signals }
+    {
+        self.signals.lowest_pending(t, set)
     }
 
     /// How often each signal pends in all places, by its number.

@@ -1,6 +1,7 @@
 ghost use Rattle.std.specs.Prelude.{◌≡◌, ◌+◌, ◌-◌, ◌≤◌, ℕ, find, nat_lt, IsNone, slice_set, slice_index};
 ghost use Rattle.std.specs.List.{range_with_len};
 ghost use Rattle.posix_model.specs.Deliveries.{next_delivery};
+ghost use Rattle.posix_model.specs.SignalCalls.{pending_set, lowest_pending};
 ghost use Rattle.posix_model.specs.Trace.{left};
 ghost use Rattle.thread_signals.specs.Counts.{place_of};
 ghost use Rattle.kernel_state.specs.View.{view, outcome, AreCurrent, StayCurrent};
@@ -11,7 +12,7 @@ use crate::change::{Change, SignalChange};
 use crate::tables::Tables;
 use posix_model::Report;
 use ready_queues::Ready;
-use thread_base::{Action, Sig, Tid};
+use thread_base::{Action, Sig, SigSet, Tid};
 
 impl<R: Ready + Drop> Tables<R> {
     /// What a signal does to the process.
@@ -52,6 +53,21 @@ impl<R: Ready + Drop> Tables<R> {
         self.records.next_pending(place, from)
     }
 
+    /// The set of the signals that pend on a thread or on the process, but for KILL, which no set has.
+    pub fn pending_set(&self, t: Tid) -> SigSet
+        ensures { result ≡ pending_set (view R.order self.now) t }
+    {
+        self.records.pending_set(t)
+    }
+
+    /// The lowest signal of a set that pends on a thread or on the process; None exactly where none of the set pends there.
+    #[tactic(auto, unfolding(crate::specs::View::view))]
+    pub fn lowest_pending(&self, t: Tid, set: SigSet) -> Option<Sig>
+        ensures { result ≡ lowest_pending (view R.order self.now) t set }
+    {
+        self.records.lowest_pending(t, set)
+    }
+
     /// How many of each signal still pend, over the process and all threads, by the signal's number.
     pub fn left(&self) -> [u64; 32]
         ensures { result ≡ left (view R.order self.now) }
@@ -76,6 +92,16 @@ impl<R: Ready + Drop> Tables<R> {
         ensures current { StayCurrent R.order R.prio self.old self.new }
     {
         let _count = self.records.take(place, signal);
+    }
+
+    /// Takes a signal from a place, and tells how many of it pended there.
+    #[tactic(auto, unfolding(crate::specs::View::outcome, crate::specs::View::view), using(crate::proofs::CurrentLemmas::alike))]
+    fn accept(&mut self, signal: Sig, place: Option<Tid>)
+        ensures outcome { outcome R.order self.new ≡ change_by (Change.Signal signal (SignalChange.Accept place)) (outcome R.order self.old) }
+        ensures current { StayCurrent R.order R.prio self.old self.new }
+    {
+        let count = self.records.take(place, signal);
+        tell_accepted(&mut self.report, signal, count);
     }
 
     /// Drops what pends of a signal in a place.
@@ -121,11 +147,21 @@ impl<R: Ready + Drop> Tables<R> {
         match change {
             SignalChange::Pend { place, count } => self.pend(signal, place, count),
             SignalChange::Take { place } => self.take(signal, place),
+            SignalChange::Accept { place } => self.accept(signal, place),
             SignalChange::Drop { place } => self.drop_signal(signal, place),
             SignalChange::Lose { count } => self.lose(signal, count),
             SignalChange::Act { action } => self.act(signal, action),
         }
     }
+}
+
+/// Tells that so many of a signal were accepted beside the main line.
+fn tell_accepted(report: &mut Report, signal: Sig, count: u64)
+    ensures { report.new ≡ record report.old { took = 1; took_sig = signal; took_count = count } }
+{
+    report.took = 1;
+    report.took_sig = signal.number();
+    report.took_count = count;
 }
 
 /// Tells that so many of a signal were dropped, of which nothing was told to be dropped before.
