@@ -204,7 +204,7 @@ module _ (sig : ℕ) (low : 1 ≤ sig) (high : sig ≤ 31) where
 
     balances_call : IsGood s → Balances sig s (by_effect s t Calls)
     balances_call good =
-        let even = even_call sig low high s t (call_number (s.threads t).registers) (arguments (s.threads t).registers) good in omega (arith, even)
+        let even = even_call sig low high s t (call_number (s.threads t).registers) (arguments (s.threads t).registers) good range in omega (arith, even)
 
     balances_effect : (e : Effect) → IsGood s → Balances sig s (by_effect s t e)
     balances_effect (Goes pc x memory) good = balances_quiet s (by_effect s t (Goes pc x memory)) (is_bare s (by_effect s t (Goes pc x memory)) refl) refl

@@ -1,5 +1,5 @@
 -- What each call adds to the ledger of a signal: one that it sends, and nothing else but what it drops.
-use Rattle.std.proofs.Common.{◌≡◌, ◌∙◌, ◌⊎◌, refl, sym, ap, subst, arith, inl, inr, ℕ, ◌≤◌, Bool, true, false, not, List, [], ◌∷◌, ◌++◌, length}
+use Rattle.std.proofs.Common.{◌≡◌, ◌∙◌, ◌⊎◌, refl, sym, ap, subst, arith, inl, inr, ℕ, ◌≤◌, Bool, true, false, not, List, [], ◌∷◌, ◌++◌, Option, Some, None, length}
 use Rattle.std.specs.Prelude.{if◌then◌else◌, ◌==◌, nat_lt}
 use Rattle.std.specs.List.{AllByRecursion}
 use Rattle.std.proofs.lemmas.Bool.{eqb-true, not-false}
@@ -19,7 +19,7 @@ use Rattle.posix_model.specs.Calls.{write, signal_calls, thread_calls, sync_call
 use Rattle.posix_model.specs.MutexCalls.{mutex_calls}
 use Rattle.posix_model.specs.ConditionCalls.{condition_calls}
 use Rattle.posix_model.specs.ClockCalls.{sleep, set_alarm, clock, clock_calls}
-use Rattle.posix_model.specs.SignalCalls.{forgotten, with_action, number_of_action, action_of, is_action, sigaction, mask_by, sigmask, sent as sent_by, can_send, kill_thread, kill_process}
+use Rattle.posix_model.specs.SignalCalls.{forgotten, with_action, number_of_action, action_of, is_action, sigaction, mask_by, sigmask, sigpending, lowest_pending, accepted, accepted_from, accept_or_wait, sigwait, sent as sent_by, can_send, kill_thread, kill_process}
 use Rattle.posix_model.specs.Good.{IsGood}
 use Rattle.posix_model.specs.declared.Arguments.{Arguments}
 use Rattle.posix_model.specs.declared.Reply.{Reply}
@@ -27,7 +27,7 @@ use Rattle.posix_model.specs.declared.Reply.TheVariants.{Values}
 use Rattle.posix_model.proofs.GoodReplies.{NoneHolds}
 use Rattle.posix_model.proofs.PendingLemmas.{either}
 use Rattle.run_laws.specs.Ledger.{is_zero, sent, share, rung}
-use Rattle.run_laws.proofs.LedgerSums.{share_other, left_in, left_is, left_forgotten, drops_more}
+use Rattle.run_laws.proofs.LedgerSums.{share_other, left_in, left_is, left_taken, left_forgotten, drops_more}
 use Rattle.run_laws.proofs.LedgerCalls.{IsCalm, AreCalm, calm_write, calm_sleep, calm_set_alarm, calm_clock, calm_thread_calls, calm_mutex_calls, calm_condition_calls}
 use Rattle.run_laws.proofs.LedgerEven.{bare_begun, is_bare, Even, none_rung, none_beside, none_dropped, even_bare, signal_comes}
 
@@ -62,9 +62,9 @@ module _ (sig : ℕ) (low : 1 ≤ sig) (high : sig ≤ 31) where
   abbrev CallCounts : State → ℕ → Arguments → Called → Type 0
   CallCounts s number c called = Even sig s called.outcome (sent_with number c called.reply) 0
 
-  -- so it is for a row under a number
+  -- so it is for a row under a number, whose caller is a thread
   abbrev Counts : ℕ → Row → Type 0
-  Counts number row = (s : State) (t : ℕ) (c : Arguments) → IsGood s → CallCounts s number c (row s t c)
+  Counts number row = (s : State) (t : ℕ) (c : Arguments) → IsGood s → IsTid t → CallCounts s number c (row s t c)
 
   abbrev EachCounts : List Entry → Type 0
   EachCounts entries = AllByRecursion (λ (entry : Entry). Counts entry.0 entry.1) entries
@@ -78,7 +78,7 @@ module _ (sig : ℕ) (low : 1 ≤ sig) (high : sig ≤ 31) where
       let args = c.a0 ∷ c.a1 ∷ c.a2 ∷ c.a3 ∷ [] in either (λ n. n ≡ 0) (is_zero reply) (sent sig number args) 0 (none args) refl
 
   calm_counts : (number : ℕ) (row : Row) → SendsNone number → IsCalm row → Counts number row
-  calm_counts number row none calm s t c good =
+  calm_counts number row none calm s t c good range =
       let even = even_bare sig s (row s t c).outcome (is_bare s (row s t c).outcome (calm s t c)) in
       let nothing = none_sent number c (row s t c).reply none in
       omega (arith, even, nothing)
@@ -117,12 +117,12 @@ module _ (sig : ℕ) (low : 1 ≤ sig) (high : sig ≤ 31) where
           omega (arith, silent, sum)
 
   counts_kill_thread : Counts 290 kill_thread
-  counts_kill_thread s t c good =
+  counts_kill_thread s t c good range =
       counts_refusing s t 290 c ((not (is_live (s.threads c.a0).standing), ESRCH) ∷ (not (can_send c.a1), EINVAL) ∷ []) (values (sent_by s c.a0 c.a1) t 0 0) (λ may.
       even_sent s c.a0 c.a1 (inr (good.within c.a0 (live_there (s.threads c.a0).standing (not-false (is_live (s.threads c.a0).standing) may.0)))))
 
   counts_kill_process : Counts 291 kill_process
-  counts_kill_process s t c good =
+  counts_kill_process s t c good range =
       counts_refusing s t 291 c ((not (can_send c.a0), EINVAL) ∷ []) (values (sent_by s 0 c.a0) t 0 0) (λ may. even_sent s 0 c.a0 (inl refl))
 
   -- another action drops all that pends where it ignores its signal
@@ -149,7 +149,7 @@ module _ (sig : ℕ) (low : 1 ≤ sig) (high : sig ≤ 31) where
           omega (arith, rung, beside, before, more, all, gone)
 
   counts_sigaction : Counts 286 sigaction
-  counts_sigaction s t c good =
+  counts_sigaction s t c good range =
       let acting : Outcome = with_action (begun s) c.a0 (action_of c.a1 (set_of c.a2)) in
       let old = number_of_action (s.actions c.a0) in
       counts_refusing s t 286 c ((not (can_block c.a0), EINVAL) ∷ (not (is_action c.a1), EINVAL) ∷ []) (values acting t 0 old) (λ may.
@@ -158,12 +158,39 @@ module _ (sig : ℕ) (low : 1 ≤ sig) (high : sig ≤ 31) where
       omega (arith, even, nothing))
 
   counts_sigmask : Counts 287 sigmask
-  counts_sigmask s t c good =
+  counts_sigmask s t c good range =
       let masked : State = set_thread s t (record (s.threads t) { mask = mask_by c.a0 (s.threads t).mask (set_of c.a1) }) in
       counts_refusing s t 287 c ((nat_lt 2 c.a0, EINVAL) ∷ []) (values (begun masked) t 0 (s.threads t).mask) (λ may.
       let even = even_bare sig s (begun masked) (is_bare s (begun masked) refl) in
       let nothing = none_sent 287 c (Values 0 (s.threads t).mask) (λ args. refl) in
       omega (arith, even, nothing))
+
+  -- a signal that is accepted goes with its whole count
+  even_accepted : (s : State) (place other : ℕ) → (place ≡ 0) ⊎ IsTid place → Even sig s (accepted (begun s) place other) 0 0
+  even_accepted s place other where_it_is =
+      let bare = bare_begun s in
+      let rung = none_rung sig s (begun s) bare in
+      let drops = none_dropped sig s (begun s) bare in
+      let taken = left_taken s place other sig where_it_is in
+      omega (arith, rung, drops, taken)
+
+  counts_accept_or_wait : (s : State) (t : ℕ) (c : Arguments) (set : ℕ) (o : Option ℕ) → IsTid t → CallCounts s 289 c (accept_or_wait s t set o)
+  counts_accept_or_wait s t c set None range =
+      let waits : Called = accept_or_wait s t set None in
+      let even = even_bare sig s waits.outcome (is_bare s waits.outcome refl) in
+      let nothing = none_sent 289 c waits.reply (λ args. refl) in
+      omega (arith, even, nothing)
+  counts_accept_or_wait s t c set (Some other) range =
+      let place = accepted_from s t other in
+      let even = even_accepted s place other (either (λ p. (p ≡ 0) ⊎ IsTid p) (nat_lt 0 (s.pending t other)) t 0 (inr range) (inl refl)) in
+      let nothing = none_sent 289 c (Values 0 other) (λ args. refl) in
+      omega (arith, even, nothing)
+
+  counts_sigwait : Counts 289 sigwait
+  counts_sigwait s t c good range =
+      let set = set_of c.a0 in
+      counts_refusing s t 289 c ((set == 0, EINVAL) ∷ []) (accept_or_wait s t set (lowest_pending s t set)) (λ may.
+      counts_accept_or_wait s t c set (lowest_pending s t set) range)
 
   counts_clock_calls : EachCounts clock_calls
   counts_clock_calls = (
@@ -174,7 +201,16 @@ module _ (sig : ℕ) (low : 1 ≤ sig) (high : sig ≤ 31) where
   counts_signal_calls : EachCounts signal_calls
   counts_signal_calls = (
     calm_counts 64 write (λ args. refl) calm_write,
-    (counts_sigaction, (counts_sigmask, (counts_kill_thread, (counts_kill_process, counts_clock_calls)))),
+    (
+      counts_sigaction,
+      (
+        counts_sigmask,
+        (
+          calm_counts 288 sigpending (λ args. refl) (λ s t c. refl),
+          (counts_sigwait, (counts_kill_thread, (counts_kill_process, counts_clock_calls))),
+        ),
+      ),
+    ),
   )
 
   -- rows that leave what a ledger reads, under numbers that send nothing
@@ -184,21 +220,21 @@ module _ (sig : ℕ) (low : 1 ≤ sig) (high : sig ≤ 31) where
 
   -- the row of a number in a list of calls, and in those after
   counts_row_of : (number : ℕ) (entries others : List Entry) → EachCounts entries → Counts number (row_of others number) → Counts number (row_of (entries ++ others) number)
-  counts_row_of number [] others each more s t c good = more s t c good
-  counts_row_of number (entry ∷ entries) others each more s t c good =
-      by (number == entry.0) (λ is. eqb-true number entry.0 is) (counts_row_of number entries others each.1 more s t c good)
+  counts_row_of number [] others each more s t c good range = more s t c good range
+  counts_row_of number (entry ∷ entries) others each more s t c good range =
+      by (number == entry.0) (λ is. eqb-true number entry.0 is) (counts_row_of number entries others each.1 more s t c good range)
     where
       by : (b : Bool) → (b ≡ true → number ≡ entry.0) → CallCounts s number c (row_of (entries ++ others) number s t c)
           → CallCounts s number c (if b then entry.1 s t c else row_of (entries ++ others) number s t c)
-      by true is rest = subst (λ n. CallCounts s n c (entry.1 s t c)) (sym (is refl)) (each.0 s t c good)
+      by true is rest = subst (λ n. CallCounts s n c (entry.1 s t c)) (sym (is refl)) (each.0 s t c good range)
       by false is rest = rest
 
   -- a call
-  pub even_call : (s : State) (t number : ℕ) (c : Arguments) → IsGood s → CallCounts s number c (call_row s t number c)
+  pub even_call : (s : State) (t number : ℕ) (c : Arguments) → IsGood s → IsTid t → CallCounts s number c (call_row s t number c)
   unfolding call_row
   even_call s t number =
       counts_row_of number signal_calls (thread_calls ++ sync_calls) counts_signal_calls
       (counts_row_of number thread_calls sync_calls (calm_each thread_calls (λ args. refl, (λ args. refl, (λ args. refl, (λ args. refl, (λ args. refl, (λ args. refl, (λ args. refl, (λ args. refl, (λ args. refl, tt))))))))) calm_thread_calls)
       (counts_row_of number mutex_calls condition_calls (calm_each mutex_calls (λ args. refl, (λ args. refl, (λ args. refl, (λ args. refl, (λ args. refl, tt))))) calm_mutex_calls)
-      (counts_row_of number condition_calls [] (calm_each condition_calls (λ args. refl, (λ args. refl, (λ args. refl, (λ args. refl, (λ args. refl, (λ args. refl, tt)))))) calm_condition_calls) (λ r u c good. counts_refused r u number c ENOSYS))))
+      (counts_row_of number condition_calls [] (calm_each condition_calls (λ args. refl, (λ args. refl, (λ args. refl, (λ args. refl, (λ args. refl, (λ args. refl, tt)))))) calm_condition_calls) (λ r u c good range. counts_refused r u number c ENOSYS))))
       s t

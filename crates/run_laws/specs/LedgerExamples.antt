@@ -8,7 +8,7 @@ use Rattle.posix_model.specs.Runs.{Moment, after}
 use Rattle.posix_model.specs.Trace.{left_of}
 use Rattle.posix_model.specs.Changes.{Outcome}
 use Rattle.posix_model.specs.Calls.{Called, told_call}
-use Rattle.posix_model.specs.SignalCalls.{sigaction, kill_thread, kill_process}
+use Rattle.posix_model.specs.SignalCalls.{sigaction, sigwait, kill_thread, kill_process}
 use Rattle.posix_model.specs.Examples.{six_threads, with_arguments}
 use Rattle.posix_model.specs.SignalExamples.{acting, at_condition}
 use Rattle.posix_model.specs.JournalExamples.{five_entries, moment_of, after_instructions}
@@ -89,3 +89,13 @@ SendsCome =
     (income 10 told ≡ 2) × (outcome 10 told ≡ 0) × (left_of sent_to_process.state 10 ≡ 2) × (income 10 (told ++ then_ignored.report ∷ []) ≡ 2)
     × (outcome 10 (told ++ then_ignored.report ∷ []) ≡ 2) × (left_of then_ignored.state 10 ≡ 0)
     × (income 10 ((told_call 1 290 (with_arguments 2 0 0 0) asked).report ∷ []) ≡ 0)
+
+-- a signal of the process that a call of thread 1 accepts
+abbrev pub then_accepted : Outcome
+then_accepted = let c = with_arguments 1024 0 0 0 in told_call 1 289 c (sigwait sent_to_process.state 1 c)
+
+-- a call that accepts a signal lets go what pends where it accepts it, which is told beside its main line
+abbrev pub AcceptsGo : Type 0
+AcceptsGo =
+    let told : List Report = sent_to_thread.report ∷ sent_to_process.report ∷ then_accepted.report ∷ [] in
+    (income 10 told ≡ 2) × (outcome 10 told ≡ 1) × (left_of then_accepted.state 10 ≡ 1) × (then_accepted.state.pending 2 10 ≡ 1)

@@ -22,3 +22,8 @@ pub fn accounts()
 pub fn sends_come()
     ensures { ledgers.SendsCome }
 {}
+
+/// A call that accepts a signal lets go what pends where it accepts it.
+pub fn accepts_go()
+    ensures { ledgers.AcceptsGo }
+{}
