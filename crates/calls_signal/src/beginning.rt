@@ -9,6 +9,7 @@ ghost use Rattle.kernel_state.specs.Begun.{CanBegin, CanNote, HasNotedSome, IsBe
 use crate::clock::{clock, set_alarm, sleep};
 use crate::output::write;
 use crate::signals::{kill_process, kill_thread, sigaction, sigmask};
+use crate::waiting::{sigpending, sigwait};
 use kernel_state::{Kernel, Stepped, arguments_from};
 use posix_model::{Arguments, Head, Reply};
 use ready_queues::Ready;
@@ -61,6 +62,8 @@ fn row<R: Ready + Drop>(k: &mut Kernel<R>, t: Tid, number: u32, c: Arguments) ->
         64 => write(k, t, c),
         286 => sigaction(k, t, c),
         287 => sigmask(k, t, c),
+        288 => sigpending(k, t),
+        289 => sigwait(k, t, c),
         290 => kill_thread(k, t, c),
         291 => kill_process(k, t, c),
         292 => sleep(k, t, c),

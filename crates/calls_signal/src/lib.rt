@@ -8,5 +8,6 @@ mod output;
 mod signals;
 #[cfg(test)]
 mod tests;
+mod waiting;
 
 pub use beginning::{begin, step};

@@ -23,6 +23,7 @@ enum Beside {
     Wrote(u32),
     Dropped(u64),
     Killed(u64),
+    Accepted(u64),
 }
 
 /// A call, what it is answered, and what is told beside.
@@ -120,8 +121,10 @@ fn told_beside(report: &Report) -> Beside {
     if report.out_len != 0 {
         return Beside::Wrote(report.out_len);
     }
-    if report.took == 2 {
-        return Beside::Killed(report.took_count);
+    match report.took {
+        1 => return Beside::Accepted(report.took_count),
+        2 => return Beside::Killed(report.took_count),
+        _ => {}
     }
     for count in &report.drops {
         if *count != 0 {
@@ -327,6 +330,45 @@ fn signals_to_the_process(rt: HostRuntime) -> Result<(), Fail> {
 }
 
 #[test]
+fn what_pends_is_accepted(rt: HostRuntime) -> Result<(), Fail> {
+    let alloc = rt.alloc();
+    let rows = [
+        answered(288, [0; 4], 0),
+        answered(290, [1, 12, 0, 0], 0),
+        answered(290, [1, 12, 0, 0], 0),
+        answered(290, [1, 12, 0, 0], 0),
+        answered(291, [12, 0, 0, 0], 0),
+        answered(291, [10, 0, 0, 0], 0),
+        answered(291, [10, 0, 0, 0], 0),
+        answered(288, [0; 4], 0x1400),
+        telling(289, [0x9000, 0, 0, 0], 12, Beside::Accepted(3)),
+        answered(288, [0; 4], 0x1400),
+        telling(289, [0x9400, 0, 0, 0], 10, Beside::Accepted(2)),
+        answered(288, [0; 4], 0x1000),
+        telling(289, [0x9400, 0, 0, 0], 12, Beside::Accepted(1)),
+        answered(288, [0; 4], 0),
+    ];
+    let told = told_of(alloc, PlainReady::new(alloc)?, &rows, Sig::of(12))?;
+    assert_eq!(rt; told, pending(0, 0));
+    Ok(())
+}
+
+#[test]
+fn a_signal_is_awaited(rt: HostRuntime) -> Result<(), Fail> {
+    let alloc = rt.alloc();
+    let rows = [
+        refused(289, [0; 4], 22),
+        refused(289, [0x200, 0, 0, 0], 22),
+        refused(289, [0x007c_0001, 0, 0, 0], 22),
+        answered(290, [1, 10, 0, 0], 0),
+        waiting(289, [0x8200, 0, 0, 0]),
+    ];
+    let told = told_of(alloc, PlainReady::new(alloc)?, &rows, Sig::of(10))?;
+    assert_eq!(rt; told, pending(1, 0));
+    Ok(())
+}
+
+#[test]
 fn what_pends_is_dropped(rt: HostRuntime) -> Result<(), Fail> {
     let alloc = rt.alloc();
     let rows = [
@@ -363,6 +405,8 @@ fn calls_as_small_changes(rt: HostRuntime) -> Result<(), Fail> {
         (286, [10, 0x10104, 0, 0], 2),
         (286, [9, 1, 0, 0], 1),
         (287, [0, 0x400, 0, 0], 2),
+        (288, [0; 4], 1),
+        (289, [0x400, 0, 0, 0], 1),
         (290, [1, 10, 0, 0], 2),
         (290, [1, 0, 0, 0], 1),
         (291, [9, 0, 0, 0], 2),
@@ -377,10 +421,7 @@ fn calls_as_small_changes(rt: HostRuntime) -> Result<(), Fail> {
 #[test]
 fn calls_that_are_not_built(rt: HostRuntime) -> Result<(), Fail> {
     let alloc = rt.alloc();
-    let rows = [
-        refused(63, [0, 0x10000, 1, 0], 38),
-        refused(288, [0; 4], 38),
-    ];
+    let rows = [refused(63, [0, 0x10000, 1, 0], 38)];
     let told = told_of(alloc, PlainReady::new(alloc)?, &rows, Sig::of(10))?;
     assert_eq!(rt; told, pending(0, 0));
     Ok(())
