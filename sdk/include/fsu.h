@@ -184,6 +184,18 @@ FSU_INLINE fsu_answer fsu_mask(uint32_t how, uint32_t set)
     return fsu_call(287, how, set, 0, 0);
 }
 
+/* The set of signals that pend on the thread or the process. */
+FSU_INLINE fsu_answer fsu_pending(void)
+{
+    return fsu_call(288, 0, 0, 0, 0);
+}
+
+/* Waits for a signal of a set. Answers the signal. */
+FSU_INLINE fsu_answer fsu_wait_signal(uint32_t set)
+{
+    return fsu_call(289, set, 0, 0, 0);
+}
+
 /* Sends a signal to a thread; 0 only asks whether there is one. */
 FSU_INLINE fsu_error fsu_kill_thread(fsu_tid thread, uint32_t signal)
 {
@@ -285,20 +297,6 @@ FSU_INLINE fsu_error fsu_set_specific(uint32_t key, uint32_t value)
 FSU_INLINE fsu_answer fsu_get_specific(uint32_t key)
 {
     return fsu_call(273, key, 0, 0, 0);
-}
-
-/* To come: signals that a thread asks for. */
-
-/* The set of signals that pend on the thread or the process. */
-FSU_INLINE fsu_answer fsu_pending(void)
-{
-    return fsu_call(288, 0, 0, 0, 0);
-}
-
-/* Waits for a signal of a set. Answers the signal. */
-FSU_INLINE fsu_answer fsu_wait_signal(uint32_t set)
-{
-    return fsu_call(289, set, 0, 0, 0);
 }
 
 /* Time. Ticks come from the journal, and a deadline is a number of ticks since the start. */

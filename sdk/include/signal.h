@@ -1,5 +1,4 @@
-/* Signals. To come: until the program makes the calls, sigpending and sigwait answer ENOSYS. Signals have the numbers
-   of Linux, and in a set bit s stands for the signal s. */
+/* Signals. They have the numbers of Linux, and in a set bit s stands for the signal s. */
 #ifndef FSU_SIGNAL_H
 #define FSU_SIGNAL_H
 

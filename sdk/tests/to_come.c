@@ -127,22 +127,16 @@ static void check_signals(void)
     CHECK(has_failed(sigaction(SIGUSR1, &action, NULL), ENOTSUP));
     action.sa_flags = 0;
     CHECK(has_failed(sigaction(40, &action, NULL), EINVAL));
-    if (has_failed(sigaction(SIGUSR1, &action, &old), ENOSYS)) {
-        CHECK(signal(SIGUSR1, SIG_IGN) == SIG_ERR && raise(SIGUSR1) == -1 && kill(getpid(), SIGUSR1) == -1);
-        CHECK(pthread_sigmask(SIG_BLOCK, &set, NULL) == ENOSYS && sigpending(&mask) == -1);
-        CHECK(sigwait(&set, &number) == ENOSYS);
-        return;
-    }
+    CHECK(sigaction(SIGUSR1, &action, &old) == 0);
     check_handler();
     CHECK(old.sa_handler == SIG_DFL && signal(SIGUSR1, SIG_DFL) == SIG_IGN);
     CHECK(pthread_sigmask(SIG_BLOCK, &set, &mask) == 0 && mask == 0);
     CHECK(pthread_sigmask(SIG_SETMASK, NULL, &mask) == 0 && mask == set);
     CHECK(raise(SIGUSR1) == 0);
-    if (has_failed(sigpending(&mask), ENOSYS)) {
-        CHECK(sigwait(&set, &number) == ENOSYS);
-    } else {
-        CHECK(mask == set && sigwait(&set, &number) == 0 && number == SIGUSR1);
-    }
+    CHECK(sigpending(&mask) == 0 && mask == set && sigwait(&set, &number) == 0 && number == SIGUSR1);
+    CHECK(sigpending(&mask) == 0 && mask == 0);
+    set = 0;
+    CHECK(sigwait(&set, &number) == EINVAL);
     CHECK(kill(getpid(), 0) == 0 && has_failed(kill(2, 0), ESRCH));
 }
 
